@@ -1,0 +1,179 @@
+#!/usr/bin/env python3
+"""Times the program vxcol on seeded jobs of several sizes and shapes, and checks each page. README.md says more."""
+
+import argparse
+import array
+import filecmp
+import multiprocessing
+import os
+import pathlib
+import random
+import subprocess
+import sys
+import tempfile
+import time
+
+TOP = pathlib.Path(__file__).resolve().parent.parent
+MEGABYTE = 1_000_000
+JOB_LIMIT = 67_108_864  # a longer job is refused
+QUOTIENT_LIMIT = 7  # of the times of the jobs of 60 and of 10 MB
+CHUNK_ROWS = 1000  # in a chunk of the shape "chunks"
+PLAN_CHUNKS = 65
+PLAN_STEPS = 1000
+LAST_ROWS = 100  # what the plan of a small page leaves
+
+
+def rows_of(rng, size):
+    """Returns numbers whose text, with a comma after each, has at most `size` bytes, and nearly as many."""
+    rows, left = [], size
+    while True:
+        piece = array.array("i", rng.randbytes(4 * 4096))
+        for text in map(str, piece):
+            left -= len(text) + 1
+            if left < 0:
+                return rows
+            rows.append(text)
+
+
+def flat(rows):
+    return '{"flat":"i64","rows":[' + ",".join(rows) + "]}"
+
+
+def chunked(rows, length):
+    chunks = (flat(rows[at : at + length]) for at in range(0, len(rows), length))
+    return '{"chunked":"i64","chunks":[' + ",".join(chunks) + "]}"
+
+
+def slice_step(start, end):
+    return f'{{"slice":[{start},{end}]}}'
+
+
+def points_step(points, is_kept):
+    return f'{{"points":[{",".join(map(str, points))}],"kept":{"true" if is_kept else "false"}}}'
+
+
+def middle(rows):
+    """Returns a plan of one slice, and the few rows that it leaves."""
+    start = max(0, len(rows) // 2 - LAST_ROWS // 2)
+    end = min(len(rows), start + LAST_ROWS)
+    return [slice_step(start, end)], [], rows[start:end]
+
+
+def long_plan(rng, rows):
+    """Returns a plan of slices, each within the one before it, and of points between them, its answers and rows."""
+    slices = PLAN_STEPS // 2
+    shrink = (min(LAST_ROWS, len(rows)) / len(rows)) ** (1 / slices)
+    plan, answers = [], []
+    first, length = 0, len(rows)
+    for turn in range(1, slices + 1):
+        shorter = max(1, min(length, round(len(rows) * shrink**turn)))
+        start = rng.randint(0, length - shorter)
+        plan.append(slice_step(start, start + shorter))
+        first, length = first + start, shorter
+        points = [rng.randrange(length) for _ in range(5)]
+        plan.append(points_step(points, turn % 2 == 0))
+        answers.append([rows[first + point] for point in points])
+    return plan, answers, rows[first : first + length]
+
+
+def make(shape, size, seed, job, page):
+    """Writes a job of at most `size` bytes, and the page that is its right answer."""
+    rng = random.Random(f"{shape} {size} {seed}")
+    room = size - (100_000 if shape == "plan" else 200)
+    if shape == "chunks":
+        room -= room // 300  # for the text around the chunks
+    rows = rows_of(rng, room)
+    if shape == "chunks":
+        part, (plan, answers, left) = chunked(rows, CHUNK_ROWS), middle(rows)
+    elif shape == "flat":
+        part, (plan, answers, left) = flat(rows), middle(rows)
+    elif shape == "whole page":
+        part, plan, answers, left = flat(rows), [], [], rows
+    else:
+        part, (plan, answers, left) = chunked(rows, -(-len(rows) // PLAN_CHUNKS)), long_plan(rng, rows)
+    text = f'{{"parts":[{part}],"plan":[{",".join(plan)}]}}'
+    if len(text) > size:
+        sys.exit(f"bench: the job {shape} has {len(text)} bytes, above {size}")
+    pathlib.Path(job).write_text(text, encoding="ascii")
+    told = ",".join(f'{{"rows":[{",".join(answer)}]}}' for answer in answers)
+    right = f'{{"answers":[{told}],"rows":[{",".join(left)}],"type":"i64"}}\n'
+    pathlib.Path(page).write_text(right, encoding="ascii")
+
+
+def made(*words):
+    """Makes a job in a process of its own, since a child's peak memory is counted from that of its parent."""
+    maker = multiprocessing.Process(target=make, args=words)
+    maker.start()
+    maker.join()
+    if maker.exitcode != 0:
+        sys.exit("bench: a job was not made")
+
+
+def timed(program, job, answer):
+    """Runs the program on a job. Returns its status, the seconds that passed and its peak memory in bytes."""
+    with open(job, "rb") as source, open(answer, "wb") as sink:
+        begin = time.perf_counter()
+        child = subprocess.Popen([program, "run"], stdin=source, stdout=sink)
+        _, status, usage = os.wait4(child.pid, 0)
+        seconds = time.perf_counter() - begin
+    child.returncode = os.waitstatus_to_exitcode(status)
+    return child.returncode, seconds, usage.ru_maxrss * 1024
+
+
+def measure(program, folder, shape, megabytes, seed, runs):
+    """Prints one line on a job, and returns the seconds of its fastest run, or None where a run went wrong."""
+    job, right, answer = (f"{folder}/{name}" for name in ("job", "right", "answer"))
+    made(shape, min(megabytes * MEGABYTE, JOB_LIMIT), seed, job, right)
+    size, best, peak = os.path.getsize(job), None, 0
+    for _ in range(runs):
+        status, seconds, memory = timed(program, job, answer)
+        if status != 0 or not filecmp.cmp(right, answer, shallow=False):
+            fault = f"status {status}" if status != 0 else "a wrong page"
+            print(f"{shape:<12}{megabytes:>4} MB  {fault}", flush=True)
+            return None
+        best, peak = min(best or seconds, seconds), max(peak, memory)
+    speed = size / MEGABYTE / best
+    print(
+        f"{shape:<12}{megabytes:>4} MB{best:>10.3f} s{speed:>9.1f} MB/s{peak / MEGABYTE:>9.1f} MB peak{peak / size:>7.1f} a byte",
+        flush=True,
+    )
+    return best
+
+
+def words():
+    parser = argparse.ArgumentParser(description=__doc__)
+    parser.add_argument("--sizes", default="1,10,60", help="megabytes of the jobs (default 1,10,60)")
+    parser.add_argument("--seed", type=int, default=1, help="another seed makes other jobs (default 1)")
+    parser.add_argument("--runs", type=int, default=3, help="runs of a job, of which the fastest counts (default 3)")
+    parser.add_argument("--program", help="a program to time in place of vxcol")
+    return parser.parse_args()
+
+
+def main():
+    given = words()
+    program = given.program or str(TOP / "crates" / "vxcol" / "out" / "vxcol")
+    if not given.program:
+        # Builds it where it has to be built. Without input there is no job, which is status 3.
+        built = subprocess.run([TOP / "vxcol", "run"], stdin=subprocess.DEVNULL, check=False).returncode
+        if built != 3:
+            sys.exit(f"bench: vxcol ended with status {built} on no input")
+    sizes = [int(word) for word in given.sizes.split(",")]
+    print(f"cores: {os.cpu_count()}, seed: {given.seed}, fastest of {given.runs} runs", flush=True)
+    is_good = True
+    with tempfile.TemporaryDirectory(prefix="vxcol-bench-") as folder:
+        for shape in ("chunks", "flat", "plan", "whole page"):
+            times = {size: measure(program, folder, shape, size, given.seed, given.runs) for size in sizes}
+            is_good = is_good and None not in times.values()
+            if times.get(10) and times.get(60):
+                quotient = times[60] / times[10]
+                is_below = quotient < QUOTIENT_LIMIT
+                is_good = is_good and is_below
+                print(
+                    f"{shape:<12}60 MB / 10 MB: {quotient:.2f}, {'below' if is_below else 'NOT BELOW'} {QUOTIENT_LIMIT}",
+                    flush=True,
+                )
+    sys.exit(0 if is_good else 1)
+
+
+if __name__ == "__main__":
+    main()

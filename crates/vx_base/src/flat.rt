@@ -1,0 +1,224 @@
+//! Flat columns: rows that fit a type.
+ghost use Rattle.std.specs.Prelude.{◌≡◌, ◌+◌, ◌-◌, ◌≤◌, ◌<◌, ◌++◌, nat_eq, length, replicate, get_or, IsTrue, IsFalse, IfOk, IfErr, OnOk, OnErr, IsOk, IsOkUnless, None, []};
+ghost use Rattle.std.specs.List.{slice_range};
+ghost use Rattle.vx_rows.specs.Fits.{rows_fit, row_fits};
+ghost use Rattle.vx_rows.specs.Sizes.{row_takes_memory, type_takes_memory};
+ghost use Rattle.vx_base.specs.Column.{flat, IsFlat, RefusesMisfit};
+
+use crate::steps::{Ledger, Steps};
+use std::alloc::Global;
+use std::marker::Model;
+use std::ops::Range;
+use vx_rows::copy::{copy_row, copy_rows, repeat_row};
+use vx_rows::fits::{row_fits, rows_fit};
+use vx_rows::{ColumnError, DType, Path, Res, Row, Rule, Seq, Shared, Value};
+
+/// Where the rows stand.
+#[derive(Drop)]
+enum Source {
+    Rows(Shared<Seq<Row>>),
+    Constant(Shared<Row>),
+}
+
+impl Source {
+    fn copy(&self) -> Res<Source>
+        ensures ok { IfOk result (λ s. s ≡ self.now) }
+        ensures err { IsOkUnless result ColumnError.OutOfMemory }
+    {
+        match self {
+            Source::Rows(rows) => Ok(Source::Rows(rows.copy()?)),
+            Source::Constant(row) => Ok(Source::Constant(row.copy()?)),
+        }
+    }
+}
+
+/// Rows that fit a type: a window over shared rows, or one shared row several times. Contracts see the type and
+/// the rows alone.
+#[derive(Drop)]
+pub struct FlatColumn {
+    dtype: DType,
+    source: Source,
+    start: usize,
+    end: usize,
+}
+
+impl Model for FlatColumn {
+    ghost use Rattle.vx_base.specs.Column.{Flat, flat_code};
+
+    ghost Value = { Flat };
+
+    ghost coded = { flat_code };
+
+    ghost use Rattle.vx_base.specs.Flat.{flat_of, IsSound};
+
+    ghost view = { flat_of };
+
+    ghost invariant = { IsSound };
+}
+
+impl FlatColumn {
+    /// A column of these rows. Refuses `Malformed` exactly where some row doesn't fit.
+    pub fn try_new(alloc: Global, dtype: DType, rows: Seq<Row>) -> Res<FlatColumn>
+        ensures ok { IfOk result (λ c. (c ≡ flat dtype rows) × IsTrue (rows_fit dtype rows)) }
+        ensures err { IfErr result (λ e. RefusesMisfit (rows_fit dtype rows) e) }
+    {
+        if !rows_fit(rows.as_slice(), &dtype) {
+            return Err(ColumnError::Malformed {
+                at: Path::empty(alloc),
+                rule: Rule::RowType,
+            });
+        }
+        let end = rows.len();
+        Ok(FlatColumn {
+            dtype,
+            source: Source::Rows(Shared::new(alloc, rows)?),
+            start: 0,
+            end,
+        })
+    }
+
+    /// One stored row, `len` times. Refuses `Malformed` exactly where it doesn't fit.
+    pub fn constant(alloc: Global, dtype: DType, row: Row, len: usize) -> Res<FlatColumn>
+        ensures ok { IfOk result (λ c. (c ≡ flat dtype (replicate len row)) × IsTrue (row_fits dtype row)) }
+        ensures err { IfErr result (λ e. RefusesMisfit (row_fits dtype row) e) }
+    {
+        if !row_fits(&dtype, &row) {
+            return Err(ColumnError::Malformed {
+                at: Path::empty(alloc),
+                rule: Rule::RowType,
+            });
+        }
+        Ok(FlatColumn {
+            dtype,
+            source: Source::Constant(Shared::new(alloc, row)?),
+            start: 0,
+            end: len,
+        })
+    }
+
+    /// A column of no rows.
+    pub fn empty(alloc: Global, dtype: DType) -> Res<FlatColumn>
+        ensures ok { IfOk result (λ c. c ≡ flat dtype []) }
+        ensures err { IsOkUnless result ColumnError.OutOfMemory }
+    {
+        Ok(FlatColumn {
+            dtype,
+            source: Source::Rows(Shared::new(alloc, Seq::new(alloc))?),
+            start: 0,
+            end: 0,
+        })
+    }
+
+    /// Another handle on the same rows.
+    pub fn share(&self) -> Res<FlatColumn>
+        ensures ok { IfOk result (λ c. c ≡ self.now) }
+        ensures err { IsOkUnless result ColumnError.OutOfMemory }
+    {
+        Ok(FlatColumn {
+            dtype: self.dtype.copy()?,
+            source: self.source.copy()?,
+            start: self.start,
+            end: self.end,
+        })
+    }
+
+    /// The type that each row fits.
+    pub fn dtype(&self) -> &DType
+        ensures dtype { result.now ≡ self.now.dtype }
+        ensures fits { IsFlat self.now }
+    {
+        &self.dtype
+    }
+
+    /// The number of rows.
+    pub fn len(&self) -> usize
+        ensures { result ≡ length self.now.rows }
+    {
+        self.end - self.start
+    }
+
+    /// Whether there is no row.
+    pub fn is_empty(&self) -> bool
+        ensures { result ≡ nat_eq (length self.now.rows) 0 }
+    {
+        self.len() == 0
+    }
+
+    /// A handle on the rows of the range, which are shared and not copied.
+    pub fn window(&self, range: Range<usize>) -> Res<FlatColumn>
+        requires order { range.start ≤ range.end }
+        requires inside { range.end ≤ length self.now.rows }
+        ensures ok { IfOk result (λ c. c ≡ flat self.now.dtype (slice_range self.now.rows range.start range.end)) }
+        ensures err { IsOkUnless result ColumnError.OutOfMemory }
+    {
+        Ok(FlatColumn {
+            dtype: self.dtype.copy()?,
+            source: self.source.copy()?,
+            start: self.start + range.start,
+            end: self.start + range.end,
+        })
+    }
+
+    /// Row `i`, lent and not counted.
+    fn row(&self, i: usize) -> &Row
+        requires { i < length self.now.rows }
+        ensures value { result.now ≡ get_or self.now.rows i None }
+        ensures free { IsFalse (type_takes_memory self.now.dtype) → IsFalse (row_takes_memory result.now) }
+    {
+        match &self.source {
+            Source::Rows(rows) => &rows.get().as_slice()[self.start + i],
+            Source::Constant(row) => row.get(),
+        }
+    }
+
+    /// Row `i`. Raises the steps by one. Booleans, integers and decimals take no memory.
+    pub fn row_at<L: Ledger>(&self, alloc: Global, i: usize, steps: &mut Steps<L>) -> Res<Row>
+        requires { i < length self.now.rows }
+        ensures ok { IfOk result (λ r. r ≡ get_or self.now.rows i None) }
+        ensures err { IsOkUnless result ColumnError.OutOfMemory }
+        ensures free { IsFalse (type_takes_memory self.now.dtype) → IsOk result }
+        ensures cost { steps.new ≡ steps.old + 1 }
+    {
+        steps.tick();
+        copy_row(alloc, self.row(i))
+    }
+
+    /// Copies of the rows of the range, not counted.
+    fn rows_in(&self, alloc: Global, range: Range<usize>) -> Res<Seq<Row>>
+        requires order { range.start ≤ range.end }
+        requires inside { range.end ≤ length self.now.rows }
+        ensures ok { IfOk result (λ rs. rs ≡ slice_range self.now.rows range.start range.end) }
+        ensures err { IsOkUnless result ColumnError.OutOfMemory }
+    {
+        match &self.source {
+            Source::Rows(rows) => {
+                copy_rows(
+                    alloc,
+                    &rows.get().as_slice()[self.start + range.start..self.start + range.end],
+                )
+            }
+            Source::Constant(row) => repeat_row(alloc, row.get(), range.end - range.start),
+        }
+    }
+
+    /// Appends the rows of the range. Raises the steps by its length; a refusal leaves `out` as it was.
+    pub fn copy_into<L: Ledger>(
+        &self,
+        alloc: Global,
+        range: Range<usize>,
+        out: &mut Seq<Row>,
+        steps: &mut Steps<L>,
+    ) -> Res<()>
+        requires order { range.start ≤ range.end }
+        requires inside { range.end ≤ length self.now.rows }
+        ensures ok { OnOk result (out.new ≡ out.old ++ slice_range self.now.rows range.start range.end) }
+        ensures err { OnErr result (out.new ≡ out.old) }
+        ensures refuses { IsOkUnless result ColumnError.OutOfMemory }
+        ensures cost { steps.new ≡ steps.old + (range.end - range.start) }
+    {
+        steps.add(range.end - range.start);
+        let rows = self.rows_in(alloc, range)?;
+        out.append(rows)?;
+        Ok(())
+    }
+}

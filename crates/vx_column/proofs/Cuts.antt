@@ -1,0 +1,378 @@
+-- Cuts of chunks.
+use Rattle.std.proofs.lemmas.Bool.{and_parts, and_from}
+use Rattle.std.proofs.Common.{true, None, ◌≡◌, ℕ, zero, suc, ◌+◌, ◌-◌, ◌*◌, ◌≤◌, ◌<◌, List, [], ◌∷◌, ◌++◌, take, drop, length, map, get_or, max, refl, sym, ◌∙◌, ap, subst, arith, append_assoc, append-nil, length-append}
+use denote.Param.Weighed.{most, at_most}
+use Rattle.vx_column.proofs.column.Column.TheLaws.{the_size}
+use Rattle.std.proofs.lemmas.List.{take-map, length-map, length-take-le, length-take, get_or-map, get_or-drop, length-drop, take_at, take-take, take_more, take-append-drop}
+use Rattle.std.specs.List.{slice_range}
+use Rattle.std.proofs.Math.Nat.{mul-le-mul, mul-le-mul_left, le_refl}
+use Rattle.std.specs.List.{All, AllByRecursion}
+use Rattle.std.proofs.lemmas.List.Elements.{All-from_recursion, recursion_from_All}
+use Rattle.vx_chunks.specs.Bounds.{total, IsSpan, search_bound, ends_cut}
+use Rattle.vx_chunks.proofs.Powers.{search_bound-le}
+use Rattle.vx_base.specs.Column.{Flat, flat}
+use Rattle.vx_rows.specs.declared.dtype.DType.{DType}
+use Rattle.vx_column.specs.Columns.{Rows, type_of, joined, greatest, rows_of, len_of, point_cost, cut_cost, lane_cost, is_plain, all_true, select_bound, IsSound, IsSliceOf}
+use Rattle.vx_column.specs.declared.column.Chunked.{Chunked}
+use Rattle.vx_column.specs.declared.column.Column.{Column}
+use Rattle.vx_column.specs.declared.column.Column.TheVariants as column
+use Rattle.vx_column.specs.declared.column.Column.TheVariants.{rolls-Flat, rolls-Chunked}
+use Rattle.vx_column.specs.declared.column.Column.TheOpen.{Column-F}
+use Rattle.vx_column.specs.declared.column.Column.TheViews.{roll-Column}
+use Rattle.vx_column.specs.declared.column.Column.TheFolds.{ind-Column, map-Column}
+use Rattle.vx_column.proofs.Layers.{type_chunked, type_flat, rows_chunked, point_chunked, cut_chunked, total_joined, sound_flat, point_least, rows_flat, point_flat, cut_flat, lane_flat, lane_chunked, plain_flat, plain_chunked}
+use Rattle.vx_column.proofs.Lists.{sublist_inside, sublist_across, sublist_front, sublist_rest, sublist_whole, sublist_none, split_at, ends_cut_within, ends_cut_across}
+
+-- the rows of columns, joined
+abbrev pub rows_in : List Column → Rows
+rows_in xs = joined (map rows_of xs)
+
+pub rows-append : (xs ys : List Column) → rows_in (xs ++ ys) ≡ rows_in xs ++ rows_in ys
+rows-append [] ys = refl
+rows-append (x ∷ xs) ys = ap (λ r. rows_of x ++ r) (rows-append xs ys) ∙ sym (append_assoc (rows_of x) (rows_in xs) (rows_in ys))
+
+pub rows_before : (xs : List Column) (k : ℕ) → total (take k (map len_of xs)) ≡ length (rows_in (take k xs))
+rows_before xs k = ap total (take-map len_of k xs) ∙ total_joined (take k xs)
+
+pub len_at : (xs : List Column) (k : ℕ) (x : Column) → k < length xs → x ≡ get_or xs k x → get_or (map len_of xs) k 0 ≡ len_of x
+len_at xs k x h e = get_or-map len_of xs k x 0 h ∙ ap len_of (sym e)
+
+pub greatest_at : (f : Column → ℕ) (xs : List Column) (k : ℕ) (x : Column) → k < length xs → x ≡ get_or xs k x → f x ≤ greatest (map f xs)
+greatest_at f [] k x h e = absurd (omega arith)
+greatest_at f (y ∷ xs) zero x h e = omega (arith, ap f e)
+greatest_at f (y ∷ xs) (suc k) x h e = omega (arith, greatest_at f xs k x (omega arith) e)
+
+pub cut_cost_is : (c : Chunked Column) → cut_cost (column.Chunked c) ≡ search_bound (length c.chunks + 1) + greatest (map cut_cost c.chunks)
+cut_cost_is c = cut_chunked c ∙ ap (λ n. search_bound (n + 1) + greatest (map cut_cost c.chunks)) (length-map c.chunks cut_cost)
+
+pub point_cost_is : (c : Chunked Column) → point_cost (column.Chunked c) ≡ search_bound (length c.chunks + 1) + greatest (map point_cost c.chunks)
+point_cost_is c = point_chunked c ∙ ap (λ n. search_bound (n + 1) + greatest (map point_cost c.chunks)) (length-map c.chunks point_cost)
+
+pub total_at : (f : Column → ℕ) (xs : List Column) (k : ℕ) (x : Column) → k < length xs → x ≡ get_or xs k x → f x ≤ total (map f xs)
+total_at f [] k x h e = absurd (omega arith)
+total_at f (y ∷ xs) zero x h e = omega (arith, ap f e)
+total_at f (y ∷ xs) (suc k) x h e = omega (arith, total_at f xs k x (omega arith) e)
+
+pub plain_at : (xs : List Column) (k : ℕ) (x : Column) → k < length xs → x ≡ get_or xs k x → all_true (map is_plain xs) ≡ true → is_plain x ≡ true
+plain_at [] k x h e all = absurd (omega arith)
+plain_at (y ∷ xs) zero x h e all = ap is_plain e ∙ (and_parts (is_plain y) (all_true (map is_plain xs)) all).0
+plain_at (y ∷ xs) (suc k) x h e all = plain_at xs k x (omega arith) e (and_parts (is_plain y) (all_true (map is_plain xs)) all).1
+
+-- a cut inside one chunk
+pub cut_one : (c : Chunked Column) (start end first s last e : ℕ) → IsSpan (map len_of c.chunks) start end first s last e → first ≡ last → start < end →
+    (x : Column) → x ≡ get_or c.chunks first x → type_of x ≡ c.dtype → (part : Column) → IsSliceOf x part s e → IsSliceOf (column.Chunked c) part start end
+cut_one c start end first s last e span same some x at typed part slice =
+    let xs = c.chunks in
+    let p = take first xs in
+    let q = drop (first + 1) xs in
+    let within : first < length xs = omega (arith, span.within, length-map xs len_of) in
+    let whole : rows_of (column.Chunked c) ≡ rows_in p ++ (rows_of x ++ rows_in q) = rows_chunked c ∙ ap rows_in (split_at xs first x within at) ∙ rows-append p (x ∷ q) in
+    let before : total (take first (map len_of xs)) ≡ length (rows_in p) = rows_before xs first in
+    let before_last : total (take last (map len_of xs)) ≡ length (rows_in p) = ap (λ k. total (take k (map len_of xs))) (sym same) ∙ before in
+    let fits : e ≤ length (rows_of x) = omega (arith, span.back_within, ap (λ k. get_or (map len_of xs) k 0) same, len_at xs first x within at) in
+    let inside : slice_range (rows_in p ++ (rows_of x ++ rows_in q)) start end ≡ slice_range (rows_of x) s e =
+    sublist_inside (rows_in p) (rows_of x) (rows_in q) s e start end (omega (arith, span.front, span.back)) fits (omega (arith, span.front)) (omega (arith, span.back)) in
+    record {
+      sound = slice.sound;
+      dtype = slice.dtype ∙ typed ∙ sym (type_chunked c);
+      rows = slice.rows ∙ sym inside ∙ ap (λ r. slice_range r start end) (sym whole);
+      point = omega (arith, slice.point, greatest_at point_cost xs first x within at, point_cost_is c);
+      cut = omega (arith, slice.cut, greatest_at cut_cost xs first x within at, cut_cost_is c);
+      lanes = omega (arith, slice.lanes, total_at lane_cost xs first x within at, lane_chunked c);
+      plain = λ all. slice.plain (plain_at xs first x within at (sym (plain_chunked c) ∙ all));
+    }
+
+-- what stands in a list at two places, and round them
+pub record Split (xs : List Column) (first last : ℕ) (x y : Column) (m : List Column) : Type 0 where
+  pub rest : List Column
+  pub parts : xs ≡ take first xs ++ (x ∷ (m ++ (y ∷ rest)))
+  pub front_long : length (take first xs) ≡ first
+  pub middle_long : first + 1 + length m ≡ last
+
+pub split_twice : (xs : List Column) (first last : ℕ) (x y : Column) (m : List Column) → first < last → last < length xs →
+    x ≡ get_or xs first x → y ≡ get_or xs last y → m ≡ slice_range xs (first + 1) last → Split xs first last x y m
+split_twice xs first last x y m h k at_x at_y mid =
+    let r = drop (first + 1) xs in
+    let j = last - (first + 1) in
+    let gap : first + 1 + j ≡ last = omega arith in
+    let in_r : j < length r = omega (arith, length-drop (first + 1) xs) in
+    let at_r : y ≡ get_or r j y = at_y ∙ ap (λ n. get_or xs n y) (sym gap) ∙ sym (get_or-drop (first + 1) xs j y) in
+    record {
+      rest = drop (j + 1) r;
+      parts = split_at xs first x (omega arith) at_x ∙ ap (λ r'. take first xs ++ (x ∷ r')) (split_at r j y in_r at_r ∙ ap (λ m'. m' ++ (y ∷ drop (j + 1) r)) (sym mid));
+      front_long = length-take-le first xs (omega arith);
+      middle_long = omega (arith, ap length mid, length-take-le j r (omega arith));
+    }
+
+-- a cut from one chunk to a later one
+pub rows_many : (xs : List Column) (start end first s last e : ℕ) → IsSpan (map len_of xs) start end first s last e → first < last →
+    (x y : Column) (m : List Column) → Split xs first last x y m → x ≡ get_or xs first x → y ≡ get_or xs last y →
+    (front back : Column) → rows_of front ≡ slice_range (rows_of x) s (len_of x) → rows_of back ≡ slice_range (rows_of y) 0 e →
+    rows_in (front ∷ (m ++ back ∷ [])) ≡ slice_range (rows_in xs) start end
+rows_many xs start end first s last e span less x y m split at_x at_y front back f b =
+    let p = take first xs in
+    let q = split.rest in
+    let within : last < length xs = omega (arith, span.within, length-map xs len_of) in
+    let whole : rows_in xs ≡ rows_in p ++ (rows_of x ++ (rows_in m ++ (rows_of y ++ rows_in q))) =
+    ap rows_in split.parts ∙ rows-append p (x ∷ (m ++ (y ∷ q))) ∙ ap (λ r. rows_in p ++ (rows_of x ++ r)) (rows-append m (y ∷ q)) in
+    let before : total (take first (map len_of xs)) ≡ length (rows_in p) = rows_before xs first in
+    let to_last : take last xs ≡ p ++ (x ∷ m) = take_to xs p x m y q first last split.parts split.front_long split.middle_long in
+    let before_last : total (take last (map len_of xs)) ≡ length (rows_in p) + (length (rows_of x) + length (rows_in m)) =
+    rows_before xs last ∙ ap (λ r. length (rows_in r)) to_last ∙ ap length (rows-append p (x ∷ m)) ∙ length-append (rows_in p) (rows_of x ++ rows_in m)
+    ∙ ap (λ n. length (rows_in p) + n) (length-append (rows_of x) (rows_in m)) in
+    let fits_x : s ≤ length (rows_of x) = omega (arith, span.front_within, len_at xs first x (omega arith) at_x) in
+    let fits_y : e ≤ length (rows_of y) = omega (arith, span.back_within, len_at xs last y within at_y) in
+    let across = sublist_across (rows_in p) (rows_of x) (rows_in m) (rows_of y) (rows_in q) s e start end fits_x fits_y (omega (arith, span.front)) (omega (arith, span.back)) in
+    let pieces : rows_in (front ∷ (m ++ back ∷ [])) ≡ drop s (rows_of x) ++ (rows_in m ++ take e (rows_of y)) =
+    ap (λ r. rows_of front ++ r) (rows-append m (back ∷ [])) ∙ ap (λ r. rows_of front ++ (rows_in m ++ r)) (append-nil (rows_of back) ∙ b ∙ sublist_front (rows_of y) e)
+    ∙ ap (λ r. r ++ (rows_in m ++ take e (rows_of y))) (f ∙ sublist_rest (rows_of x) s) in
+    pieces ∙ sym across ∙ ap (λ r. slice_range r start end) (sym whole)
+  where
+    take_to : (xs p : List Column) (x : Column) (m : List Column) (y : Column) (q : List Column) (first last : ℕ) → xs ≡ p ++ (x ∷ (m ++ (y ∷ q))) → length p ≡ first → first + 1 + length m ≡ last →
+        take last xs ≡ p ++ (x ∷ m)
+    take_to xs p x m y q first last e long mid =
+        let again : (p ++ (x ∷ m)) ++ (y ∷ q) ≡ xs = append_assoc p (x ∷ m) (y ∷ q) ∙ sym e in
+        let n : length (p ++ (x ∷ m)) ≡ last = omega (arith, length-append p (x ∷ m)) in
+        ap (take last) (sym again) ∙ take_at (p ++ (x ∷ m)) (y ∷ q) last n
+
+pub greatest_parts : (f : Column → ℕ) (xs : List Column) (first last : ℕ) (x y : Column) (m : List Column) → Split xs first last x y m →
+    (front back : Column) → f front ≤ f x → f back ≤ f y → greatest (map f (front ∷ (m ++ back ∷ []))) ≤ greatest (map f xs)
+greatest_parts f xs first last x y m split front back h k =
+    let p = take first xs in
+    let all : greatest (map f xs) ≡ max (greatest (map f p)) (max (f x) (max (greatest (map f m)) (max (f y) (greatest (map f split.rest))))) =
+    ap (λ r. greatest (map f r)) split.parts ∙ greatest_of f p (x ∷ (m ++ (y ∷ split.rest))) ∙ ap (λ n. max (greatest (map f p)) (max (f x) n)) (greatest_of f m (y ∷ split.rest)) in
+    let some : greatest (map f (front ∷ (m ++ back ∷ []))) ≡ max (f front) (max (greatest (map f m)) (max (f back) 0)) =
+    ap (λ n. max (f front) n) (greatest_of f m (back ∷ [])) in
+    omega (arith, all, some)
+  where
+    greatest_of : (f : Column → ℕ) (xs ys : List Column) → greatest (map f (xs ++ ys)) ≡ max (greatest (map f xs)) (greatest (map f ys))
+    greatest_of f [] ys = omega arith
+    greatest_of f (x ∷ xs) ys = omega (arith, greatest_of f xs ys)
+
+pub total_parts : (f : Column → ℕ) (xs : List Column) (first last : ℕ) (x y : Column) (m : List Column) → Split xs first last x y m →
+    (front back : Column) → f front ≤ f x → f back ≤ f y → total (map f (front ∷ (m ++ back ∷ []))) ≤ total (map f xs)
+total_parts f xs first last x y m split front back h k =
+    let p = take first xs in
+    let all : total (map f xs) ≡ total (map f p) + (f x + (total (map f m) + (f y + total (map f split.rest)))) =
+    ap (λ r. total (map f r)) split.parts ∙ total_of f p (x ∷ (m ++ (y ∷ split.rest))) ∙ ap (λ n. total (map f p) + (f x + n)) (total_of f m (y ∷ split.rest)) in
+    let some : total (map f (front ∷ (m ++ back ∷ []))) ≡ f front + (total (map f m) + (f back + 0)) =
+    ap (λ n. f front + n) (total_of f m (back ∷ [])) in
+    omega (arith, all, some)
+  where
+    total_of : (f : Column → ℕ) (xs ys : List Column) → total (map f (xs ++ ys)) ≡ total (map f xs) + total (map f ys)
+    total_of f [] ys = omega arith
+    total_of f (x ∷ xs) ys = omega (arith, total_of f xs ys)
+
+plain_split : (xs ys : List Column) → all_true (map is_plain (xs ++ ys)) ≡ true → (all_true (map is_plain xs) ≡ true) × (all_true (map is_plain ys) ≡ true)
+plain_split [] ys all = (refl, all)
+plain_split (x ∷ xs) ys all =
+    let p = and_parts (is_plain x) (all_true (map is_plain (xs ++ ys))) all in
+    let q = plain_split xs ys p.1 in
+    (and_from (is_plain x) (all_true (map is_plain xs)) p.0 q.0, q.1)
+
+plain_join : (xs ys : List Column) → all_true (map is_plain xs) ≡ true → all_true (map is_plain ys) ≡ true → all_true (map is_plain (xs ++ ys)) ≡ true
+plain_join [] ys a b = b
+plain_join (x ∷ xs) ys a b =
+    let p = and_parts (is_plain x) (all_true (map is_plain xs)) a in
+    and_from (is_plain x) (all_true (map is_plain (xs ++ ys))) p.0 (plain_join xs ys p.1 b)
+
+pub plain_parts : (xs : List Column) (first last : ℕ) (x y : Column) (m : List Column) → Split xs first last x y m → (front back : Column) →
+    (is_plain x ≡ true → is_plain front ≡ true) → (is_plain y ≡ true → is_plain back ≡ true) → all_true (map is_plain xs) ≡ true → all_true (map is_plain (front ∷ (m ++ back ∷ []))) ≡ true
+plain_parts xs first last x y m split front back f b all =
+    let behind = (plain_split (take first xs) (x ∷ (m ++ (y ∷ split.rest))) (sym (ap (λ r. all_true (map is_plain r)) split.parts) ∙ all)).1 in
+    let at_x = and_parts (is_plain x) (all_true (map is_plain (m ++ (y ∷ split.rest)))) behind in
+    let round_m = plain_split m (y ∷ split.rest) at_x.1 in
+    let at_y = and_parts (is_plain y) (all_true (map is_plain split.rest)) round_m.1 in
+    and_from (is_plain front) (all_true (map is_plain (m ++ back ∷ []))) (f at_x.0)
+    (plain_join m (back ∷ []) round_m.0 (and_from (is_plain back) true (b at_y.0) refl))
+
+pub cut_many : (c a : Chunked Column) (start end first s last e : ℕ) → IsSpan (map len_of c.chunks) start end first s last e → first < last →
+    (x y : Column) (m : List Column) → x ≡ get_or c.chunks first x → y ≡ get_or c.chunks last y → m ≡ slice_range c.chunks (first + 1) last →
+    (front back : Column) → IsSliceOf x front s (len_of x) → IsSliceOf y back 0 e →
+    IsSound (column.Chunked a) → a.chunks ≡ front ∷ (m ++ back ∷ []) → a.dtype ≡ c.dtype → IsSliceOf (column.Chunked c) (column.Chunked a) start end
+cut_many c a start end first s last e span less x y m at_x at_y mid front back f b sound made typed =
+    let xs = c.chunks in
+    let within : last < length xs = omega (arith, span.within, length-map xs len_of) in
+    let split : Split xs first last x y m = split_twice xs first last x y m less within at_x at_y mid in
+    let count : length a.chunks ≤ length xs = omega (arith, ap length made, length-append m (back ∷ []), split.middle_long) in
+    let bound : search_bound (length a.chunks + 1) ≤ search_bound (length xs + 1) = search_bound-le (length a.chunks + 1) (length xs + 1) (omega arith) in
+    record {
+      sound = sound;
+      dtype = type_chunked a ∙ typed ∙ sym (type_chunked c);
+      rows = rows_chunked a ∙ ap rows_in made ∙ rows_many xs start end first s last e span less x y m split at_x at_y front back f.rows b.rows ∙ ap (λ r. slice_range r start end) (sym (rows_chunked c));
+      point = omega (arith, point_cost_is a, point_cost_is c, bound, ap (λ r. greatest (map point_cost r)) made, greatest_parts point_cost xs first last x y m split front back f.point b.point);
+      cut = omega (arith, cut_cost_is a, cut_cost_is c, bound, ap (λ r. greatest (map cut_cost r)) made, greatest_parts cut_cost xs first last x y m split front back f.cut b.cut);
+      lanes = omega (arith, lane_chunked a, lane_chunked c, ap (λ r. total (map lane_cost r)) made, total_parts lane_cost xs first last x y m split front back f.lanes b.lanes);
+      plain = λ all. plain_chunked a ∙ ap (λ r. all_true (map is_plain r)) made ∙ plain_parts xs first last x y m split front back f.plain b.plain (sym (plain_chunked c) ∙ all);
+    }
+
+-- the pieces are no longer than the rows that are asked for
+pub fits_many : (c : Chunked Column) (start end first s last e : ℕ) → IsSpan (map len_of c.chunks) start end first s last e → first < last →
+    (x y : Column) (m : List Column) → x ≡ get_or c.chunks first x → y ≡ get_or c.chunks last y → m ≡ slice_range c.chunks (first + 1) last →
+    (front back : Column) → IsSliceOf x front s (len_of x) → IsSliceOf y back 0 e → total (map len_of (front ∷ (m ++ back ∷ []))) ≤ end - start
+fits_many c start end first s last e span less x y m at_x at_y mid front back f b =
+    let xs = c.chunks in
+    let within : last < length xs = omega (arith, span.within, length-map xs len_of) in
+    let split : Split xs first last x y m = split_twice xs first last x y m less within at_x at_y mid in
+    let rows = rows_many xs start end first s last e span less x y m split at_x at_y front back f.rows b.rows in
+    omega (arith, total_joined (front ∷ (m ++ back ∷ [])), ap length rows, length-take (end - start) (drop start (rows_in xs)))
+
+-- the ledger
+pub rise_one : (old mid new cuts bound cuts' cost greatest' : ℕ) → mid ≤ old + cuts * bound → new ≤ mid + cuts' * cost → cuts' ≤ cuts → cost ≤ greatest' → new ≤ old + cuts * (bound + greatest')
+rise_one old mid new cuts bound cuts' cost greatest' h k m n = omega (arith, mul-le-mul m n)
+
+pub rise_two : (old m1 m2 new cuts bound cuts1 cost1 cuts2 cost2 greatest' : ℕ) → m1 ≤ old + cuts * bound → m2 ≤ m1 + cuts1 * cost1 → new ≤ m2 + cuts2 * cost2 → cuts1 + cuts2 ≤ cuts → cost1 ≤ greatest' → cost2 ≤ greatest' →
+    new ≤ old + cuts * (bound + greatest')
+rise_two old m1 m2 new cuts bound cuts1 cost1 cuts2 cost2 greatest' h1 h2 h3 c n1 n2 =
+    omega (arith, mul-le-mul_left cuts1 n1, mul-le-mul_left cuts2 n2, mul-le-mul c (le_refl greatest'))
+
+-- the size of a chunk is below that of its column
+pub falls_at : (xs : List Column) (k : ℕ) (x : Column) (t : ℕ) → x ≡ get_or xs k x → k < length xs → 2 * max 0 (max (most the_size xs) 0) + 1 ≡ t → 2 * the_size x + 0 < t
+falls_at xs k x t e h d = omega (arith, d, at_most the_size xs k x h, ap the_size e)
+
+pub same_at : (ys xs : List Column) (k : ℕ) (x : Column) → ys ≡ xs → x ≡ get_or ys k x → x ≡ get_or xs k x
+same_at ys xs k x e at = at ∙ ap (λ (zs : List Column). get_or zs k x) e
+
+pub held_at : (P : Column → Type 0) (ys : List Column) (k : ℕ) (x : Column) → All P ys → k < length ys → x ≡ get_or ys k x → P x
+held_at P ys k x all h at = subst P (sym at) (all k x h)
+
+pub total_is : (c : Chunked Column) → total (map len_of c.chunks) ≡ len_of (column.Chunked c)
+total_is c = total_joined c.chunks ∙ ap length (sym (rows_chunked c))
+
+pub rise_inside : (c : Chunked Column) (start end first s last e : ℕ) → IsSpan (map len_of c.chunks) start end first s last e → first ≡ last →
+    (x : Column) → x ≡ get_or c.chunks first x → (old mid new : ℕ) → mid ≤ old + ends_cut start end (len_of (column.Chunked c)) * search_bound (length c.chunks + 1) →
+    new ≤ mid + ends_cut s e (len_of x) * cut_cost x → new ≤ old + ends_cut start end (len_of (column.Chunked c)) * cut_cost (column.Chunked c)
+rise_inside c start end first s last e span same x at old mid new h k =
+    let xs = c.chunks in
+    let within : first < length xs = omega (arith, span.within, length-map xs len_of) in
+    let all = total_is c in
+    let long = len_at xs first x within at in
+    let cuts : ends_cut s e (len_of x) ≤ ends_cut start end (len_of (column.Chunked c)) =
+    ends_cut_within start end (len_of (column.Chunked c)) s e (len_of x) (λ z. omega (arith, span.front))
+    (λ z. span.back_full (z ∙ sym all) ∙ ap (λ k. get_or (map len_of xs) k 0) (sym same) ∙ long) in
+    subst (λ n. new ≤ old + ends_cut start end (len_of (column.Chunked c)) * n) (sym (cut_cost_is c))
+    (rise_one old mid new (ends_cut start end (len_of (column.Chunked c))) (search_bound (length xs + 1)) (ends_cut s e (len_of x)) (cut_cost x) (greatest (map cut_cost xs)) h k cuts (greatest_at cut_cost xs first x within at))
+
+pub rise_across : (c : Chunked Column) (start end first s last e : ℕ) → IsSpan (map len_of c.chunks) start end first s last e →
+    (x y : Column) → x ≡ get_or c.chunks first x → y ≡ get_or c.chunks last y → (old mid front new : ℕ) →
+    mid ≤ old + ends_cut start end (len_of (column.Chunked c)) * search_bound (length c.chunks + 1) → front ≤ mid + ends_cut s (len_of x) (len_of x) * cut_cost x →
+    new ≤ front + ends_cut 0 e (len_of y) * cut_cost y → new ≤ old + ends_cut start end (len_of (column.Chunked c)) * cut_cost (column.Chunked c)
+rise_across c start end first s last e span x y at_x at_y old mid front new h1 h2 h3 =
+    let xs = c.chunks in
+    let within : last < length xs = omega (arith, span.within, length-map xs len_of) in
+    let within_first : first < length xs = omega (arith, span.ordered) in
+    let all = total_is c in
+    let cuts : ends_cut s (len_of x) (len_of x) + ends_cut 0 e (len_of y) ≤ ends_cut start end (len_of (column.Chunked c)) =
+    ends_cut_across start end (len_of (column.Chunked c)) s (len_of x) e (len_of y) (λ z. omega (arith, span.front)) (λ z. span.back_full (z ∙ sym all) ∙ len_at xs last y within at_y) in
+    subst (λ n. new ≤ old + ends_cut start end (len_of (column.Chunked c)) * n) (sym (cut_cost_is c))
+    (rise_two old mid front new (ends_cut start end (len_of (column.Chunked c))) (search_bound (length xs + 1)) (ends_cut s (len_of x) (len_of x)) (cut_cost x) (ends_cut 0 e (len_of y)) (cut_cost y)
+    (greatest (map cut_cost xs)) h1 h2 h3 cuts (greatest_at cut_cost xs first x within_first at_x) (greatest_at cut_cost xs last y within at_y))
+
+-- where the first cut is refused
+pub rise_front : (c : Chunked Column) (start end first s last e : ℕ) → IsSpan (map len_of c.chunks) start end first s last e →
+    (x y : Column) → x ≡ get_or c.chunks first x → y ≡ get_or c.chunks last y → (old mid new : ℕ) →
+    mid ≤ old + ends_cut start end (len_of (column.Chunked c)) * search_bound (length c.chunks + 1) → new ≤ mid + ends_cut s (len_of x) (len_of x) * cut_cost x →
+    new ≤ old + ends_cut start end (len_of (column.Chunked c)) * cut_cost (column.Chunked c)
+rise_front c start end first s last e span x y at_x at_y old mid new h1 h2 = rise_across c start end first s last e span x y at_x at_y old mid new new h1 h2 (omega arith)
+
+-- an empty column
+pub empty_slice : (whole : Column) (rows : Flat) (t : DType) (at : ℕ) → rows ≡ flat t [] → t ≡ type_of whole → IsSliceOf whole (column.Flat rows) at at
+empty_slice whole rows t at none typed = record {
+  sound = sound_flat rows;
+  dtype = type_flat rows ∙ ap (λ r. r.dtype) none ∙ typed;
+  rows = rows_flat rows ∙ ap (λ r. r.rows) none ∙ sym (sublist_none (rows_of whole) at at refl);
+  point = omega (arith, point_flat rows, point_least whole);
+  cut = omega (arith, cut_flat rows);
+  lanes = omega (arith, lane_flat rows);
+  plain = λ _. plain_flat rows;
+}
+
+-- a window over a flat column
+pub flat_slice : (whole : Column) (all rows : Flat) (start end : ℕ) → whole ≡ column.Flat all → rows ≡ flat all.dtype (slice_range all.rows start end) → IsSliceOf whole (column.Flat rows) start end
+flat_slice whole all rows start end is cut = subst (λ w. IsSliceOf w (column.Flat rows) start end) (sym is)
+    (record {
+      sound = sound_flat rows;
+      dtype = type_flat rows ∙ ap (λ r. r.dtype) cut ∙ sym (type_flat all);
+      rows = rows_flat rows ∙ ap (λ r. r.rows) cut ∙ ap (λ r. slice_range r start end) (sym (rows_flat all));
+      point = omega (arith, point_flat rows, point_flat all);
+      cut = omega (arith, cut_flat rows);
+      lanes = omega (arith, lane_flat rows);
+      plain = λ _. plain_flat rows;
+    })
+
+pub all_push : (P : Column → Type 0) (xs : List Column) (x : Column) → AllByRecursion P xs → P x → AllByRecursion P (xs ++ x ∷ [])
+all_push P [] x s p = (p, tt)
+all_push P (y ∷ xs) x s p = (s.0, all_push P xs x s.1 p)
+
+pub all_round : (P : Column → Type 0) (front : Column) (middle : List Column) (back : Column) → P front → All P middle → P back → All P (front ∷ (middle ++ back ∷ []))
+all_round P front middle back f m b = All-from_recursion P (front ∷ (middle ++ back ∷ [])) (f, all_push P middle back (recursion_from_All P middle m) b)
+
+pub all_more : (P : Column → Type 0) (xs : List Column) (k : ℕ) (x : Column) → k < length xs → x ≡ get_or xs k x → All P (take k xs) → P x → All P (take (k + 1) xs)
+all_more P xs k x h e s p =
+    let more : take k xs ++ x ∷ [] ≡ take (k + 1) xs = ap (λ y. take k xs ++ y ∷ []) e ∙ sym (take_more xs k x h) in
+    subst (All P) more (All-from_recursion P (take k xs ++ x ∷ []) (all_push P (take k xs) x (recursion_from_All P (take k xs) s) p))
+
+get_or_after : {A : Type 0} (p q : List A) (n : ℕ) (d : A) → get_or (p ++ q) (length p + n) d ≡ get_or q n d
+get_or_after [] q n d = ap (λ m. get_or q m d) (omega arith)
+get_or_after (x ∷ p) q n d =
+    let next : length (x ∷ p) + n ≡ suc (length p + n) = omega arith in
+    ap (λ m. get_or (x ∷ (p ++ q)) m d) next ∙ get_or_after p q n d
+
+get_or_before : {A : Type 0} (x q : List A) (n : ℕ) (d : A) → n < length x → get_or (x ++ q) n d ≡ get_or x n d
+get_or_before [] q n d h = absurd (omega arith)
+get_or_before (y ∷ x) q zero d h = refl
+get_or_before (y ∷ x) q (suc n) d h = get_or_before x q n d (omega arith)
+
+-- a row of the whole is a row of the chunk that holds it
+pub row_in : (c : Chunked Column) (k place at : ℕ) (x : Column) → x ≡ get_or c.chunks k x → k < length c.chunks → place < len_of x → total (take k (map len_of c.chunks)) + place ≡ at →
+    get_or (rows_of (column.Chunked c)) at None ≡ get_or (rows_of x) place None
+row_in c k place at x at_x h in_x e =
+    let xs = c.chunks in
+    let p = take k xs in
+    let q = drop (k + 1) xs in
+    let whole : rows_of (column.Chunked c) ≡ rows_in p ++ (rows_of x ++ rows_in q) = rows_chunked c ∙ ap rows_in (split_at xs k x h at_x) ∙ rows-append p (x ∷ q) in
+    let index : at ≡ length (rows_in p) + place = omega (arith, e, rows_before xs k) in
+    ap (λ rows. get_or rows at None) whole ∙ ap (λ n. get_or (rows_in p ++ (rows_of x ++ rows_in q)) n None) index ∙ get_or_after (rows_in p) (rows_of x ++ rows_in q) place None
+    ∙ get_or_before (rows_of x) (rows_in q) place None in_x
+
+-- the rows of a column that is seen to be flat
+pub flat_seen : (self : Column) (c : Flat) (n : ℕ) → self ≡ column.Flat c → n ≡ length c.rows → slice_range c.rows 0 n ≡ rows_of self
+flat_seen self c n is e = sublist_whole c.rows n e ∙ sym (rows_flat c) ∙ ap rows_of (sym is)
+
+-- what stood before a list that only grew still stands
+pub still_before : {A : Type 0} (old more mid new : List A) → mid ≡ old ++ more → take (length mid) new ≡ mid → take (length old) new ≡ old
+still_before old more mid new e h =
+    let shorter : length old ≤ length mid = omega (arith, ap length e, length-append old more) in
+    sym (take-take (length old) (length mid) new shorter) ∙ ap (take (length old)) (h ∙ e) ∙ take_at old more (length old) refl
+
+pub rows_more : (xs : List Column) (k : ℕ) (x : Column) → k < length xs → x ≡ get_or xs k x → rows_in (take (k + 1) xs) ≡ rows_in (take k xs) ++ rows_of x
+rows_more xs k x h e =
+    ap rows_in (take_more xs k x h ∙ ap (λ y. take k xs ++ y ∷ []) (sym e)) ∙ rows-append (take k xs) (x ∷ []) ∙ ap (λ r. rows_in (take k xs) ++ r) (append-nil (rows_of x))
+
+pub rows_part : (xs : List Column) (k : ℕ) → length (rows_in (take k xs)) ≤ length (rows_in xs)
+rows_part xs k = omega (arith, ap (λ ys. length (rows_in ys)) (take-append-drop k xs), ap length (rows-append (take k xs) (drop k xs)), length-append (rows_in (take k xs)) (rows_in (drop k xs)))
+
+-- to read each row once is within the bound of a selection
+pub select_least : (x : Column) (n : ℕ) → n ≤ select_bound x n
+select_least x n = omega (arith, mul-le-mul_left (8 * n) (point_least x))
+
+-- the rows of a column that is seen to be chunked
+pub rows_seen : (self : Column) (c : Chunked Column) (xs : List Column) → self ≡ column.Chunked c → xs ≡ c.chunks → rows_in xs ≡ rows_of self
+rows_seen self c xs is same = ap rows_in same ∙ sym (rows_chunked c) ∙ ap rows_of (sym is)
+
+-- a cut costs at most two reads
+abbrev IsCheap : Column → Type 0
+IsCheap x = cut_cost x ≤ 2 * point_cost x
+
+cheap_all : (es : List ((x : Column) × IsCheap x)) → greatest (map cut_cost (map (λ e. e.0) es)) ≤ 2 * greatest (map point_cost (map (λ e. e.0) es))
+cheap_all [] = omega arith
+cheap_all (e ∷ es) = omega (arith, e.1, cheap_all es)
+
+cheap_layer : (y : Column-F ((x : Column) × IsCheap x)) → IsCheap (roll-Column (map-Column ((x : Column) × IsCheap x) Column (λ e. e.0) y))
+cheap_layer (Column-F.Flat rows) = subst IsCheap (sym (rolls-Flat rows)) (omega (arith, cut_flat rows))
+cheap_layer (Column-F.Chunked c) =
+    let whole : Chunked Column = record { dtype = c.dtype; boundaries = c.boundaries; chunks = map (λ e. e.0) c.chunks } in
+    subst IsCheap (sym (rolls-Chunked whole)) (omega (arith, cut_cost_is whole, point_cost_is whole, cheap_all c.chunks))
+
+pub cut_at_most_twice : (x : Column) → cut_cost x ≤ 2 * point_cost x
+cut_at_most_twice = ind-Column IsCheap (λ x y e. subst (λ l. IsCheap (roll-Column l)) e (cheap_layer y))

@@ -1,0 +1,6 @@
+pub mod Readings
+pub mod Levels
+pub mod Jobs
+pub mod RowLists
+pub mod TypeLists
+pub mod Floats

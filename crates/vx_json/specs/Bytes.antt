@@ -1,0 +1,20 @@
+-- The job that bytes are, and the line that is written for a value.
+use Rattle.std.specs.Prelude.{◌≡◌, ℕ, List, [], ◌∷◌, ◌++◌, Some, IsUtf8}
+use Rattle.serde_json.specs.Data.{Data}
+use Rattle.serde_json.specs.Read.{read}
+use Rattle.serde_json.specs.Written.{compact_text}
+use Rattle.vx_json.specs.Job.{Asked, job_of}
+
+-- the bytes are text, the text is JSON, and the JSON is a job that asks this
+pub record IsJobOf (bytes : List ℕ) (a : Asked) : Type 0 where
+  pub utf8 : IsUtf8 bytes
+  pub json : Data
+  pub reads : read bytes ≡ Some json
+  pub job : job_of json ≡ Some a
+
+abbrev pub HasNoJob : List ℕ → Type 0
+HasNoJob bytes = (a : Asked) → IsJobOf bytes a → ⊥
+
+-- the compact text, and a line feed
+abbrev pub line : Data → List ℕ
+line d = compact_text d ++ 10 ∷ []

@@ -1,0 +1,28 @@
+-- What a job asks, and the JSON that it is.
+use Rattle.std.specs.Prelude.{List, codes, Option, Some}
+use Rattle.serde_json.specs.Data.{Data}
+use Rattle.serde_json.specs.Find.{get}
+use Rattle.vx_plan.specs.declared.part.Part.{Part}
+use Rattle.vx_plan.specs.declared.step.Step.{Step}
+use Rattle.vx_json.specs.declared.job.Job.{Job}
+use Rattle.vx_json.specs.Forms.{◌>>=◌, object_of, list_of}
+use Rattle.vx_json.specs.Parts.{part_at}
+use Rattle.vx_json.specs.Steps.{step_of}
+
+-- parts, and the plan for the column that they are
+pub record Asked : Type 0 where
+  pub parts : List Part
+  pub plan : List Step
+
+abbrev pub asked : Job → Asked
+asked j = record { parts = j.parts.items; plan = j.plan.items }
+
+-- `{"parts":[P],"plan":[S]}`; 128 levels of parts are more than any JSON text that is read has
+unfoldable pub job_of : Data → Option Asked
+job_of d = do
+  len ← object_of 2 d
+  part_items ← get (codes "parts") d
+  step_items ← get (codes "plan") d
+  parts ← list_of (part_at 128) part_items
+  plan ← list_of step_of step_items
+  Some (record { parts = parts; plan = plan })

@@ -1,0 +1,11 @@
+pub mod Forms
+pub mod Types
+pub mod Rows
+pub mod Parts
+pub mod Steps
+pub mod Job
+pub mod Bytes
+pub mod TypeJson
+pub mod RowJson
+pub mod PageJson
+pub mod RefusalJson

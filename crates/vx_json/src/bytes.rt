@@ -1,0 +1,22 @@
+//! Jobs out of bytes.
+ghost use Rattle.std.specs.Prelude.{IfOk, IsOkUnless, MatchOption};
+ghost use Rattle.vx_json.specs.Job.{asked};
+ghost use Rattle.vx_json.specs.Bytes.{IsJobOf, HasNoJob};
+
+use crate::job::{Job, job_of};
+use serde_json::Value;
+use std::alloc::Global;
+use vx_rows::{ColumnError, Res};
+
+/// The job that the bytes are, if they are one.
+pub fn parse_job(alloc: Global, bytes: &[u8]) -> Res<Option<Job>>
+    ensures ok { IfOk result
+        (λ found. MatchOption found (HasNoJob bytes.now) (λ job. IsJobOf bytes.now (asked job))) }
+    ensures err { IsOkUnless result ColumnError.OutOfMemory }
+{
+    match Value::from_slice(alloc, bytes) {
+        Ok(value) => job_of(alloc, &value),
+        Err(error) if error.is_memory() => Err(ColumnError::OutOfMemory),
+        Err(_) => Ok(None),
+    }
+}

@@ -1,0 +1,6 @@
+pub mod Opened
+pub mod Decided
+pub mod Faults
+pub mod Runs
+pub mod Headline
+pub mod StepErrors

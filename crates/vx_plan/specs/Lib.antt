@@ -1,0 +1,5 @@
+pub mod Parts
+pub mod Plans
+pub mod Shown
+pub mod Answered
+pub mod Laws

@@ -1,0 +1,61 @@
+//! What a plan answers, with the rows that it leaves.
+ghost use Rattle.std.specs.Prelude.{◌≡◌};
+ghost use Rattle.vx_plan.specs.Shown.{shown};
+
+use std::marker::Model;
+use vx_base::{DType, Row, Seq};
+
+/// What a step answers.
+#[derive(Drop)]
+pub enum Answer {
+    /// Rows, in the order that was asked for.
+    Rows(Seq<Row>),
+}
+
+/// The answers of a plan in order, and the type and the rows of its last column.
+#[derive(Drop)]
+pub struct Page {
+    answers: Seq<Answer>,
+    dtype: DType,
+    rows: Seq<Row>,
+}
+
+impl Model for Page {
+    ghost use Rattle.vx_plan.specs.Shown.{Shown, shown, shown_code};
+
+    ghost Value = { Shown };
+
+    ghost coded = { shown_code };
+
+    ghost view = { λ p. shown p.answers p.dtype p.rows };
+}
+
+impl Page {
+    pub fn new(answers: Seq<Answer>, dtype: DType, rows: Seq<Row>) -> Page
+        ensures { result ≡ shown answers dtype rows }
+    {
+        Page {
+            answers,
+            dtype,
+            rows,
+        }
+    }
+
+    pub fn answers(&self) -> &[Answer]
+        ensures { result.now ≡ self.now.answers }
+    {
+        self.answers.as_slice()
+    }
+
+    pub fn dtype(&self) -> &DType
+        ensures { result.now ≡ self.now.dtype }
+    {
+        &self.dtype
+    }
+
+    pub fn rows(&self) -> &[Row]
+        ensures { result.now ≡ self.now.rows }
+    {
+        self.rows.as_slice()
+    }
+}

@@ -1,0 +1,11 @@
+//! What is done to a column.
+use vx_base::Seq;
+
+/// One step of a plan.
+#[derive(Drop)]
+pub enum Step {
+    /// Keeps rows `start` to below `end`.
+    Slice { start: usize, end: usize },
+    /// Answers the rows of these numbers, and keeps the column. `kept` asks for one reader over all of them.
+    Points { rows: Seq<usize>, kept: bool },
+}

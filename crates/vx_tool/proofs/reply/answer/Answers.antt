@@ -1,0 +1,22 @@
+use Rattle.std.proofs.Common.{◌∙◌, ap, subst, arith, List}
+use Rattle.vx_column.specs.Columns.{flat_of, len_of}
+use Rattle.vx_plan.specs.Plans.{Reaches, plan_bound}
+use Rattle.vx_plan.specs.Shown.{Shown}
+use Rattle.vx_plan.specs.declared.step.Step.{Step}
+use Rattle.vx_json.specs.Bytes.{line}
+use Rattle.vx_json.specs.PageJson.{page_json}
+use Rattle.vx_tool.proofs.reply.answer.Goals as goal
+
+pub returns-in-Ok-clause-ok : goal.returns-in-Ok-clause-ok
+returns-in-Ok-clause-ok g c =
+    let parts = c.args.job.parts.items in
+    let given = c.in-Ok.answers in
+    let last = flat_of given.column in
+    let plan = c.as_slice.ensures.value in
+    record {
+      answers = given.answers;
+      last = last;
+      reaches = subst (λ (p : List Step). Reaches parts p given.answers last) plan c.in-Ok.ensures.ok;
+      written = c.from_vec.ensures ∙ c.in_ok-text-in-Ok.ensures.ok ∙ ap (λ (p : Shown). line (page_json p)) c.in_ok-page-in-Ok.ensures.ok;
+      rise = omega (arith, c.in-Ok.ensures.rise, c.into_rows.ensures.rise, c.in-Ok.ensures.select (len_of given.column), ap (plan_bound parts) plan);
+    }

@@ -1,0 +1,12 @@
+//! The command as a call: from the bytes of a source to the bytes of a sink. Names the ends and the JSON forms again.
+#![tactic(auto)]
+
+pub mod command;
+pub mod reply;
+pub mod run;
+pub mod status;
+
+pub use run::run_job;
+pub use status::Status;
+pub use vx_ends::{Failed, Sink, SinkError, Source, StdinSource, StdoutSink, SureSink, SureSource};
+pub use vx_json::{Job, job_of, page_of};

@@ -1,0 +1,55 @@
+//! From a job to the text that answers it.
+ghost use Rattle.std.specs.Prelude.{◌≡◌, ◌≤◌, IfOk, IsOkUnless, MatchOption};
+ghost use Rattle.vx_json.specs.Job.{asked};
+ghost use Rattle.vx_json.specs.Bytes.{HasNoJob};
+ghost use Rattle.vx_tool.specs.Reply.{Answers};
+ghost use Rattle.vx_tool.specs.Outcome.{AnswersBytes};
+
+use std::alloc::Global;
+use vx_base::{ColumnError, Ledger, Res, Seq, Steps};
+use vx_json::{Job, page_line, parse_job, refusal_line};
+use vx_plan::run_plan;
+
+/// What is written for a job: one line of text.
+#[derive(Drop)]
+pub enum Reply {
+    /// The page of the plan.
+    Page(Seq<u8>),
+    /// The refusal of the plan.
+    Refusal(Seq<u8>),
+}
+
+/// The reply to the bytes of a job. Bytes that are no job have none.
+pub fn reply_to<L: Ledger>(alloc: Global, bytes: &[u8], steps: &mut Steps<L>) -> Res<Option<Reply>>
+    ensures ok { IfOk result (λ found. MatchOption found (HasNoJob bytes.now)
+        (λ reply. AnswersBytes bytes.now reply steps.old steps.new)) }
+    ensures err { IsOkUnless result ColumnError.OutOfMemory }
+    ensures kept { steps.old ≤ steps.new }
+{
+    let Some(job) = parse_job(alloc, bytes)? else {
+        return Ok(None);
+    };
+    let reply = answer(alloc, job, steps)?;
+    Ok(Some(reply))
+}
+
+/// Runs the plan of a job, and prints its page or its refusal.
+fn answer<L: Ledger>(alloc: Global, job: Job, steps: &mut Steps<L>) -> Res<Reply>
+    ensures ok { IfOk result (λ reply. Answers (asked job) reply steps.old steps.new) }
+    ensures err { IsOkUnless result ColumnError.OutOfMemory }
+    ensures kept { steps.old ≤ steps.new }
+{
+    let Job { parts, plan } = job;
+    match run_plan(alloc, parts, plan.as_slice(), steps) {
+        Ok(answers) => {
+            let page = answers.into_rows(alloc, steps)?;
+            let text = page_line(alloc, &page)?;
+            Ok(Reply::Page(Seq::from_vec(text)))
+        }
+        Err(ColumnError::OutOfMemory) => Err(ColumnError::OutOfMemory),
+        Err(error) => {
+            let text = refusal_line(alloc, &error)?;
+            Ok(Reply::Refusal(Seq::from_vec(text)))
+        }
+    }
+}

@@ -1,0 +1,11 @@
+//! Tests that cross crates: columns through their calls, plans over parts, and jobs from bytes to bytes.
+#![tactic(auto)]
+
+#[cfg(test)]
+mod columns;
+#[cfg(test)]
+mod jobs;
+#[cfg(test)]
+mod parts;
+#[cfg(test)]
+mod plans;
