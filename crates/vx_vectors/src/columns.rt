@@ -13,23 +13,33 @@ fn nested(alloc: Global) -> Res<Part> {
 }
 
 #[test]
-fn chunks_in_chunks(rt: HostRuntime) -> Result<(), Fail> {
+fn slices_chunks_in_chunks(rt: HostRuntime) -> Result<(), Fail> {
     let alloc = rt.alloc();
     let mut steps = Steps::new(&rt, CountLedger::new());
     let column = nested(alloc)?.open(alloc)?;
     let part = column.slice(alloc, 0..4, &mut steps)?;
     let cut = steps.ledger().count();
     assert!(rt; 0 < cut && cut <= 12, "the slice raised {cut}");
+    let mut out = Seq::new(alloc);
+    part.append_into(alloc, &mut out, &mut steps)?;
+    let all = numbers(alloc, out.as_slice())?;
+    assert_eq!(rt; all.as_slice(), [1, 2, 3, 4].as_slice());
+    Ok(())
+}
+
+#[test]
+fn reads_chunks_in_chunks(rt: HostRuntime) -> Result<(), Fail> {
+    let alloc = rt.alloc();
+    let mut steps = Steps::new(&rt, CountLedger::new());
+    let column = nested(alloc)?.open(alloc)?;
+    let part = column.slice(alloc, 0..4, &mut steps)?;
+    let cut = steps.ledger().count();
     let mut probe = ArrayProbe::once(&part);
     let row = probe.execute_scalar(alloc, 3, &mut steps)?;
     let read = steps.ledger().count() - cut;
     assert!(rt; 0 < read && read <= 13, "the read raised {read}");
     let point = numbers(alloc, &[row])?;
     assert_eq!(rt; point.as_slice(), [4].as_slice());
-    let mut out = Seq::new(alloc);
-    part.append_into(alloc, &mut out, &mut steps)?;
-    let all = numbers(alloc, out.as_slice())?;
-    assert_eq!(rt; all.as_slice(), [1, 2, 3, 4].as_slice());
     Ok(())
 }
 
