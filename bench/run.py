@@ -18,6 +18,10 @@ MEGABYTE = 1_000_000
 JOB_LIMIT = 67_108_864  # a longer job is refused
 QUOTIENT_LIMIT = 7  # of the times of the jobs of 60 and of 10 MB
 CHUNK_ROWS = 1000  # in a chunk of the shape "chunks"
+WIDE_CHUNKS = 100_000
+WIDE_BYTES = 100  # of a chunk of the shape "wide", at least
+DEEP_LEVELS = 60  # of parts in parts; JSON may be nested 127 deep, and each part takes two of these
+NAMED_ROWS = 1000  # in the reads of the shapes "wide" and "deep"
 PLAN_CHUNKS = 65
 PLAN_STEPS = 1000
 LAST_ROWS = 100  # what the plan of a small page leaves
@@ -44,6 +48,16 @@ def chunked(rows, length):
     return '{"chunked":"i64","chunks":[' + ",".join(chunks) + "]}"
 
 
+def nested(rows, levels):
+    """Returns chunks in chunks: at each level a flat chunk and then the next level."""
+    length = -(-len(rows) // levels)
+    part = flat(rows[(levels - 1) * length :])
+    for level in range(levels - 2, -1, -1):
+        front = flat(rows[level * length : (level + 1) * length])
+        part = f'{{"chunked":"i64","chunks":[{front},{part}]}}'
+    return part
+
+
 def slice_step(start, end):
     return f'{{"slice":[{start},{end}]}}'
 
@@ -57,6 +71,17 @@ def middle(rows):
     start = max(0, len(rows) // 2 - LAST_ROWS // 2)
     end = min(len(rows), start + LAST_ROWS)
     return [slice_step(start, end)], [], rows[start:end]
+
+
+def scattered(rng, rows):
+    """Returns a plan of reads all over the column, of a slice that cuts both ends off, and of reads after it."""
+    cut = rows[1:-1]
+    before = [rng.randrange(len(rows)) for _ in range(NAMED_ROWS)]
+    after = [rng.randrange(len(cut)) for _ in range(NAMED_ROWS)]
+    first = max(0, len(cut) // 2 - LAST_ROWS // 2)
+    last = min(len(cut), first + LAST_ROWS)
+    plan = [points_step(before, False), slice_step(1, len(rows) - 1), points_step(after, False), slice_step(first, last)]
+    return plan, [[rows[at] for at in before], [cut[at] for at in after]], cut[first:last]
 
 
 def long_plan(rng, rows):
@@ -82,11 +107,20 @@ def make(shape, size, seed, job, page):
     room = size - (100_000 if shape == "plan" else 200)
     if shape == "chunks":
         room -= room // 300  # for the text around the chunks
+    elif shape == "wide":
+        room -= 25 * min(WIDE_CHUNKS, size // WIDE_BYTES) + 30_000
+    elif shape == "deep":
+        room -= 40_000
     rows = rows_of(rng, room)
     if shape == "chunks":
         part, (plan, answers, left) = chunked(rows, CHUNK_ROWS), middle(rows)
     elif shape == "flat":
         part, (plan, answers, left) = flat(rows), middle(rows)
+    elif shape == "wide":
+        length = -(-len(rows) // min(WIDE_CHUNKS, size // WIDE_BYTES))
+        part, (plan, answers, left) = chunked(rows, length), scattered(rng, rows)
+    elif shape == "deep":
+        part, (plan, answers, left) = nested(rows, DEEP_LEVELS), scattered(rng, rows)
     elif shape == "whole page":
         part, plan, answers, left = flat(rows), [], [], rows
     else:
@@ -161,7 +195,7 @@ def main():
     print(f"cores: {os.cpu_count()}, seed: {given.seed}, fastest of {given.runs} runs", flush=True)
     is_good = True
     with tempfile.TemporaryDirectory(prefix="vxcol-bench-") as folder:
-        for shape in ("chunks", "flat", "plan", "whole page"):
+        for shape in ("chunks", "wide", "deep", "flat", "plan", "whole page"):
             times = {size: measure(program, folder, shape, size, given.seed, given.runs) for size in sizes}
             is_good = is_good and None not in times.values()
             if times.get(10) and times.get(60):

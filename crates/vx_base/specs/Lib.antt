@@ -1,2 +1,4 @@
+pub mod Checks
 pub mod Column
 pub mod Flat
+pub mod Numbers

@@ -1,17 +1,20 @@
 //! Flat columns: rows that fit a type.
-ghost use Rattle.std.specs.Prelude.{◌≡◌, ◌+◌, ◌-◌, ◌≤◌, ◌<◌, ◌++◌, nat_eq, length, replicate, get_or, IsTrue, IsFalse, IfOk, IfErr, OnOk, OnErr, IsOk, IsOkUnless, None, []};
+ghost use Rattle.std.specs.Prelude.{◌≡◌, ◌+◌, ◌-◌, ◌≤◌, ◌<◌, ◌++◌, nat_eq, length, replicate, get_or, IsTrue, IsFalse, IfOk, IfErr, OnOk, OnErr, IsOk, IsOkUnless, None, [], is_some, slice_index};
 ghost use Rattle.std.specs.List.{slice_range};
 ghost use Rattle.vx_rows.specs.Fits.{rows_fit, row_fits};
+ghost use Rattle.vx_rows.specs.Order.{row_cmp};
 ghost use Rattle.vx_rows.specs.Sizes.{row_takes_memory, type_takes_memory};
 ghost use Rattle.vx_base.specs.Column.{flat, IsFlat, RefusesMisfit};
+ghost use Rattle.vx_base.specs.Numbers.{row_int, numbers_of, is_integer, is_unsigned};
 
 use crate::steps::{Ledger, Steps};
 use std::alloc::Global;
+use std::cmp::Ordering;
 use std::marker::Model;
 use std::ops::Range;
 use vx_rows::copy::{copy_row, copy_rows, repeat_row};
 use vx_rows::fits::{row_fits, rows_fit};
-use vx_rows::{ColumnError, DType, Path, Res, Row, Rule, Seq, Shared, Value};
+use vx_rows::{ColumnError, DType, Path, Res, Row, Rule, Seq, Shared, Value, order};
 
 /// Where the rows stand.
 #[derive(Drop)]
@@ -160,7 +163,7 @@ impl FlatColumn {
     }
 
     /// Row `i`, lent and not counted.
-    fn row(&self, i: usize) -> &Row
+    pub(crate) fn row(&self, i: usize) -> &Row
         requires { i < length self.now.rows }
         ensures value { result.now ≡ get_or self.now.rows i None }
         ensures free { IsFalse (type_takes_memory self.now.dtype) → IsFalse (row_takes_memory result.now) }
@@ -181,6 +184,62 @@ impl FlatColumn {
     {
         steps.tick();
         copy_row(alloc, self.row(i))
+    }
+
+    /// The number of row `i`, where it is an integer. Not counted.
+    fn int(&self, i: usize) -> Option<i128>
+        requires { i < length self.now.rows }
+        ensures { result ≡ row_int (get_or self.now.rows i None) }
+    {
+        match self.row(i) {
+            Some(Value::Int(number)) => Some(*number),
+            _ => None,
+        }
+    }
+
+    /// Row `i` of a column of integers: nothing, or its number. Raises the steps by one.
+    pub fn int_at<L: Ledger>(&self, i: usize, steps: &mut Steps<L>) -> Option<i128>
+        requires integers { IsTrue (is_integer self.now.dtype) }
+        requires inside { i < length self.now.rows }
+        ensures value { result ≡ row_int (get_or self.now.rows i None) }
+        ensures cost { steps.new ≡ steps.old + 1 }
+    {
+        steps.tick();
+        self.int(i)
+    }
+
+    /// Whether row `i` is a value. Raises the steps by one.
+    pub fn is_valid_at<L: Ledger>(&self, i: usize, steps: &mut Steps<L>) -> bool
+        requires { i < length self.now.rows }
+        ensures value { result ≡ is_some (get_or self.now.rows i None) }
+        ensures cost { steps.new ≡ steps.old + 1 }
+    {
+        steps.tick();
+        self.row(i).is_some()
+    }
+
+    /// How row `i` stands to `elem`. Raises the steps by one.
+    pub fn cmp_at<L: Ledger>(&self, i: usize, elem: &Row, steps: &mut Steps<L>) -> Ordering
+        requires { i < length self.now.rows }
+        ensures value { result ≡ row_cmp (get_or self.now.rows i None) elem.now }
+        ensures cost { steps.new ≡ steps.old + 1 }
+    {
+        steps.tick();
+        order::row_cmp(self.row(i), elem)
+    }
+
+    /// The number of row `i` of a column of unsigned integers, not counted.
+    pub(crate) fn number(&self, i: usize) -> usize
+        requires unsigned { IsTrue (is_unsigned self.now.dtype) }
+        requires inside { i < length self.now.rows }
+        ensures { result ≡ slice_index (numbers_of self.now.rows) i }
+    {
+        // Each row fits the type.
+        let _ = &self.dtype;
+        match self.int(i) {
+            Some(number) => number as usize,
+            None => 0,
+        }
     }
 
     /// Copies of the rows of the range, not counted.

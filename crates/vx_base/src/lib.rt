@@ -1,6 +1,7 @@
 //! Flat columns and the ledger of reads, over the rows and types of `vx_rows`, which it names again.
 #![tactic(auto)]
 
+pub mod checks;
 pub mod flat;
 pub mod steps;
 mod tally;

@@ -1,8 +1,8 @@
 -- Running sums and their gaps.
-use Rattle.std.proofs.Common.{◌≡◌, ℕ, zero, suc, ◌+◌, ◌-◌, ◌≤◌, ◌<◌, List, [], ◌∷◌, ◌++◌, take, length, get_or, refl, sym, ◌∙◌, ap, arith, add-one, subst, inl, inr}
+use Rattle.std.proofs.Common.{◌≡◌, ℕ, zero, suc, ◌+◌, ◌-◌, ◌≤◌, ◌<◌, List, [], ◌∷◌, ◌++◌, take, length, get_or, refl, sym, ◌∙◌, ap, arith, add-one, subst, inl, inr, min}
 use Rattle.std.proofs.lemmas.List.{take_more}
 use Rattle.std.proofs.lemmas.Bool.{cases_eq, cases_lt}
-use Rattle.vx_chunks.specs.Bounds.{total, running, gaps, Found}
+use Rattle.vx_chunks.specs.Bounds.{total, running, gaps}
 
 pub length-running : (at : ℕ) (ns : List ℕ) → length (running at ns) ≡ length ns + 1
 length-running at [] = refl
@@ -41,15 +41,6 @@ pub running_push : (at : ℕ) (ns : List ℕ) (n : ℕ) → running at (ns ++ n 
 running_push at [] n = ap (λ k. at ∷ k ∷ []) (omega arith)
 running_push at (m ∷ ns) n = ap (λ ks. at ∷ ks) (running_push (at + m) ns n ∙ ap (λ k. running (at + m) ns ++ k ∷ []) (omega arith))
 
--- Bounds that are running sums of the lengths, as `Boundaries` keeps them.
-pub length-bounds : (ends lens : List ℕ) → ends ≡ running 0 (gaps ends) → gaps ends ≡ lens → length ends ≡ length lens + 1
-length-bounds ends lens e f = ap length e ∙ length-running 0 (gaps ends) ∙ ap (λ ks. length ks + 1) f
-
-pub bound_at : (ends lens : List ℕ) → ends ≡ running 0 (gaps ends) → gaps ends ≡ lens → (k d : ℕ) → k ≤ length lens → get_or ends k d ≡ total (take k lens)
-bound_at ends lens e f k d h =
-    let same : ends ≡ running 0 lens = e ∙ ap (running 0) f in
-    ap (λ ks. get_or ks k d) same ∙ omega (arith, get_or-running 0 lens k d h)
-
 pub running_more : (lens : List ℕ) (k d : ℕ) → k < length lens → running 0 (take (k + 1) lens) ≡ running 0 (take k lens) ++ total (take (k + 1) lens) ∷ []
 running_more lens k d h =
     ap (running 0) (take_more lens k d h) ∙ running_push 0 (take k lens) (get_or lens k d) ∙ ap (λ n. running 0 (take k lens) ++ n ∷ []) (omega (arith, total-take_more lens k d h))
@@ -60,26 +51,30 @@ total-take_le [] (suc k) = omega arith
 total-take_le (n ∷ ns) zero = omega arith
 total-take_le (n ∷ ns) (suc k) = omega (arith, total-take_le ns k)
 
-pub found : (ends lens : List ℕ) → ends ≡ running 0 (gaps ends) → gaps ends ≡ lens → (after index : ℕ) → index < total lens → after ≤ length ends →
-    (0 < after → get_or ends (after - 1) 0 ≤ index) → (after < length ends → index < get_or ends after 0) → Found lens after index
-found ends lens e f after index h w low high =
-    let long : length ends ≡ length lens + 1 = length-bounds ends lens e f in
-    let none : get_or ends 0 0 ≡ 0 = bound_at ends lens e f 0 0 (omega arith) in
-    let some : 0 < after = positive_after after index (length ends) (get_or ends 0 0) none (omega arith) (λ z l. subst (λ n. index < get_or ends n 0) z (high l)) in
-    let last : get_or ends (length lens) 0 ≡ total lens = bound_at ends lens e f (length lens) 0 (omega arith) ∙ total-take_all lens in
-    let inside : after ≤ length lens = not_past after index (length lens) (total lens) (omega arith) h (λ z. omega (arith, last, subst (λ n. get_or ends n 0 ≤ index) z (low some))) in
-    let left : total (take (after - 1) lens) ≤ index = omega (arith, low some, bound_at ends lens e f (after - 1) 0 (omega arith)) in
-    let next : after - 1 + 1 ≡ after = omega arith in
-    let more : total (take after lens) ≡ total (take (after - 1) lens) + get_or lens (after - 1) 0 = ap (λ n. total (take n lens)) (sym next) ∙ total-take_more lens (after - 1) 0 (omega arith) in
-    let right : index < get_or ends after 0 = high (omega arith) in
-    record { positive = some; within = inside; below = left; above = omega (arith, bound_at ends lens e f after 0 inside) }
-  where
-    positive_after : (after index n first : ℕ) → first ≡ 0 → 0 < n → (after ≡ 0 → after < n → index < first) → 0 < after
-    positive_after zero index n first z p high = absurd (omega (arith, high refl p))
-    positive_after (suc after) index n first z p high = omega arith
+-- the first boundary above an index below the length
+module _ (lens : List ℕ) (after index : ℕ) (h : index < total lens) (w : after ≤ length lens + 1)
+    (low : 0 < after → total (take (after - 1) lens) ≤ index) (high : after < length lens + 1 → index < total (take after lens)) where
+  pub found_positive : 0 < after
+  found_positive = positive_after after (λ z. subst (λ n. index < total (take n lens)) z (high (omega arith)))
+    where
+      positive_after : (n : ℕ) → (n ≡ 0 → index < total (take 0 lens)) → 0 < n
+      positive_after zero none = absurd (omega (arith, none refl))
+      positive_after (suc n) none = omega arith
 
-    not_past : (after index n all : ℕ) → after ≤ n + 1 → index < all → (after - 1 ≡ n → all ≤ index) → after ≤ n
-    not_past after index n all w h low = elim (cases_eq after (n + 1)) as (λ _. after ≤ n) [ inl same ↦ absurd (omega (arith, low (omega arith))) | inr apart ↦ omega arith ]
+  pub found_within : after ≤ length lens
+  found_within = elim (cases_eq after (length lens + 1)) as (λ _. after ≤ length lens) [
+    | inl same ↦
+        let last : after - 1 ≡ length lens = omega arith in
+        absurd (omega (arith, total-take_all lens, ap (λ n. total (take n lens)) last, low (omega arith)))
+    | inr apart ↦ omega arith
+  ]
+
+-- and an index below it lies in the chunk before it
+pub above_last : (lens : List ℕ) (after index : ℕ) → 0 < after → after ≤ length lens → index < total (take after lens) →
+    index < total (take (after - 1) lens) + get_or lens (after - 1) 0
+above_last lens after index p w h =
+    let next : after - 1 + 1 ≡ after = omega arith in
+    omega (arith, ap (λ n. total (take n lens)) next, total-take_more lens (after - 1) 0 (omega arith))
 
 pub total-take_mono : (lens : List ℕ) (j k : ℕ) → j ≤ k → total (take j lens) ≤ total (take k lens)
 total-take_mono [] zero k h = omega arith
@@ -103,3 +98,26 @@ pub total-last : (lens : List ℕ) (n : ℕ) → n ≡ length lens → 0 < n →
 total-last lens n e h =
     let back : n - 1 + 1 ≡ length lens = omega arith in
     sym (total-take_more lens (n - 1) 0 (omega arith)) ∙ ap (λ k. total (take k lens)) back ∙ total-take_all lens
+
+-- behind an index at the length stands no boundary
+pub found_none : (lens : List ℕ) (after index : ℕ) → index ≡ total lens → after ≤ length lens + 1 → (after < length lens + 1 → index < total (take after lens)) → after ≡ length lens + 1
+found_none lens after index h w high =
+    elim (cases_lt after (length lens + 1)) as (λ _. after ≡ length lens + 1) [
+      | inl below ↦ absurd (omega (arith, high below, total-take_le lens after))
+      | inr above ↦ omega arith
+    ]
+
+-- the last of some chunks reaches from its front to the end; with no chunk both are 0
+pub total-last_or_none : (lens : List ℕ) → total (take (length lens - 1) lens) + get_or lens (length lens - 1) 0 ≡ total lens
+total-last_or_none [] = refl
+total-last_or_none (n ∷ ns) = total-last (n ∷ ns) (length (n ∷ ns)) refl (omega arith)
+
+-- the chunk of an index begins at most there
+pub begins_before : (lens : List ℕ) (index after chunk : ℕ) → index ≤ total lens → (index < total lens → after ≤ length lens) →
+    (index < total lens → total (take (after - 1) lens) ≤ index) → chunk ≡ min after (length lens) - 1 → total (take chunk lens) ≤ index
+begins_before lens index after chunk h within below e = elim (cases_lt index (total lens)) as (λ _. total (take chunk lens) ≤ index) [
+  | inl inside ↦
+      let same : chunk ≡ after - 1 = omega (arith, within inside) in
+      omega (arith, ap (λ k. total (take k lens)) same, below inside)
+  | inr end ↦ omega (arith, total-take_le lens chunk)
+]

@@ -1,29 +1,39 @@
 //! Where chunks lie in their rows: 0 and the running sums of their lengths.
-ghost use Rattle.std.specs.Prelude.{◌≡◌, ◌+◌, ◌-◌, ◌*◌, ◌^◌, ◌<◌, ◌≤◌, length, take, slice_index, cond, ◌==◌};
+ghost use Rattle.std.specs.Prelude.{◌≡◌, ◌+◌, ◌-◌, ◌^◌, ◌<◌, ◌≤◌, length, take, map, slice_index};
 ghost use Rattle.std.specs.Prelude.{IfOk, OnOk, IfErr, IsOkUnless};
+ghost use Rattle.vx_base.specs.Column.{flat};
+ghost use Rattle.vx_search.specs.Places as searched;
 ghost use Rattle.vx_chunks.specs.Causes.{SumCause};
-ghost use Rattle.vx_chunks.specs.Bounds.{search_bound, total, running, Found, IsSpan, ends_cut};
+ghost use Rattle.vx_chunks.specs.Bounds.{total, running};
+ghost use Rattle.vx_chunks.specs.Offsets.{offset_type, offset_row, offsets_of};
 
 use std::alloc::Global;
 use std::marker::Model;
-use vx_base::{ColumnError, Ledger, Path, Res, Rule, Shared, Steps};
+use vx_base::{
+    ColumnError, DType, FlatColumn, Ledger, Nullability, PType, Path, Res, Rule, Seq, Shared,
+    Steps, Value,
+};
+use vx_search::{SearchSorted, SearchSortedSide, SortedSlice, search_bound};
 
-/// Where chunks begin and end: 0 and the running sums of their lengths, shared by all handles. Contracts see the
-/// lengths.
+/// Where chunks begin and end: 0 and the running sums of their lengths, as numbers and as a flat column, both shared
+/// by all handles. Contracts see the lengths.
 #[derive(Drop)]
 pub struct Boundaries {
     ends: Shared<Vec<usize>>,
+    offsets: FlatColumn,
 }
 
 impl Model for Boundaries {
     ghost use Rattle.std.specs.Prelude.{◌≡◌, ℕ, List};
     ghost use Rattle.vx_chunks.specs.Bounds.{running, gaps};
+    ghost use Rattle.vx_chunks.specs.Offsets.{offsets_of};
 
     ghost Value = { List ℕ };
 
     ghost view = { λ b. gaps b.ends.items };
 
-    ghost invariant = { λ b. b.ends.items ≡ running 0 (gaps b.ends.items) };
+    ghost invariant = { λ b. (b.ends.items ≡ running 0 (gaps b.ends.items))
+        × (b.offsets ≡ offsets_of (gaps b.ends.items)) };
 }
 
 impl Boundaries {
@@ -47,15 +57,23 @@ impl Boundaries {
             sum = next;
             ends.push(sum)?;
         }
+        let offsets = offsets_column(alloc, ends.as_slice())?;
         let ends = Shared::new(alloc, ends)?;
-        Ok(Boundaries { ends })
+        Ok(Boundaries { ends, offsets })
     }
 
-    /// The running sums.
-    fn ends(&self) -> &[usize]
+    /// The boundaries: 0 and the running sums, one more than there are chunks.
+    pub fn values(&self) -> &[usize]
         ensures { result.now ≡ running 0 self.now }
     {
         self.ends.get().as_slice()
+    }
+
+    /// The boundaries as a column of `u64`.
+    pub fn array(&self) -> &FlatColumn
+        ensures { result.now ≡ offsets_of self.now }
+    {
+        &self.offsets
     }
 
     /// How many rows stand before a chunk.
@@ -63,7 +81,7 @@ impl Boundaries {
         requires { chunk ≤ length self.now }
         ensures { result ≡ total (take chunk self.now) }
     {
-        self.ends()[chunk]
+        self.values()[chunk]
     }
 
     /// The number of rows of all chunks together.
@@ -77,7 +95,7 @@ impl Boundaries {
     pub fn nchunks(&self) -> usize
         ensures { result ≡ length self.now }
     {
-        self.ends().len() - 1
+        self.values().len() - 1
     }
 
     /// The length of a chunk.
@@ -85,31 +103,53 @@ impl Boundaries {
         requires { chunk < length self.now }
         ensures { result ≡ slice_index self.now chunk }
     {
-        let ends = self.ends();
+        let ends = self.values();
         ends[chunk + 1] - ends[chunk]
     }
 
-    /// The chunk that holds a row, never an empty one, and the row's place in it. Takes no memory.
+    /// The chunk that holds a row, never an empty one, and the row's place in it. An index at the length names the last
+    /// chunk and its length, or (0, 0) where there is no chunk. Takes no memory.
     pub fn find_chunk_idx<L: Ledger>(&self, index: usize, steps: &mut Steps<L>) -> (usize, usize)
-        requires { index < total self.now }
-        ensures chunk { result.0 < length self.now }
-        ensures place { result.1 < slice_index self.now result.0 }
+        requires { index ≤ total self.now }
         ensures row { total (take result.0 self.now) + result.1 ≡ index }
-        ensures rise { steps.new ≤ steps.old + search_bound (length self.now + 1) }
+        ensures inside { index < total self.now →
+            (result.0 < length self.now) × (result.1 < slice_index self.now result.0) }
+        ensures last { index ≡ total self.now →
+            (result.0 ≡ length self.now - 1) × (result.1 ≡ slice_index self.now result.0) }
+        ensures rise { steps.new ≤ steps.old + searched.search_bound (length self.now + 1) }
         ensures kept { steps.old ≤ steps.new }
     {
-        let chunk = self.chunk_after(index, steps) - 1;
+        let after = self.chunk_after(index, steps);
+        let chunk = after.min(self.nchunks()).saturating_sub(1);
         (chunk, index - self.at(chunk))
     }
 
-    /// The number of the chunk behind the one that holds a row.
+    /// The number of the chunk behind the one that holds a row, and of boundaries for an index at the length.
+    #[tactic(auto, using(crate::proofs::Sums::found_positive, crate::proofs::Sums::found_within, crate::proofs::Sums::found_none))]
     fn chunk_after<L: Ledger>(&self, index: usize, steps: &mut Steps<L>) -> usize
-        requires { index < total self.now }
-        ensures found { Found self.now result index }
-        ensures rise { steps.new ≤ steps.old + search_bound (length self.now + 1) }
+        requires { index ≤ total self.now }
+        ensures positive { index < total self.now → 0 < result }
+        ensures within { index < total self.now → result ≤ length self.now }
+        ensures below { index < total self.now → total (take (result - 1) self.now) ≤ index }
+        ensures above { index < total self.now → index < total (take result self.now) }
+        ensures last { index ≡ total self.now → result ≡ length self.now + 1 }
+        ensures rise { steps.new ≤ steps.old + searched.search_bound (length self.now + 1) }
         ensures kept { steps.old ≤ steps.new }
     {
-        first_above(self.ends(), index, steps)
+        self.bound_above(index, steps)
+    }
+
+    /// Where the first boundary above an index stands, or the number of boundaries where there is none.
+    fn bound_above<L: Ledger>(&self, index: usize, steps: &mut Steps<L>) -> usize
+        ensures within { result ≤ length self.now + 1 }
+        ensures below { 0 < result → total (take (result - 1) self.now) ≤ index }
+        ensures above { result < length self.now + 1 → index < total (take result self.now) }
+        ensures rise { steps.new ≤ steps.old + searched.search_bound (length self.now + 1) }
+        ensures kept { steps.old ≤ steps.new }
+    {
+        let mut boundaries = SortedSlice::new(self.values());
+        let place = boundaries.search_sorted(&index, SearchSortedSide::Right, steps);
+        place.unwrap().to_index()
     }
 
     /// Another handle on the same boundaries.
@@ -118,95 +158,27 @@ impl Boundaries {
         ensures err { IsOkUnless result ColumnError.OutOfMemory }
     {
         let ends = self.ends.copy()?;
-        Ok(Boundaries { ends })
+        let offsets = self.offsets.share()?;
+        Ok(Boundaries { ends, offsets })
+    }
+
+    /// The most comparisons that a search over the boundaries makes.
+    pub fn search_cost(&self) -> u64
+        ensures { result ≡ searched.search_bound (length self.now + 1) }
+    {
+        search_bound(self.values().len())
     }
 }
 
-/// Where a range of rows lies: from a place in its first chunk to below a place in its last.
-#[derive(Clone, Copy)]
-pub struct Span {
-    /// The first chunk.
-    pub first: usize,
-    /// The place of the first row in it.
-    pub first_start: usize,
-    /// The last chunk.
-    pub last: usize,
-    /// The place behind the last row in it.
-    pub last_end: usize,
-}
-
-impl Boundaries {
-    /// Where rows `start` to below `end` lie. A start of 0 and an end at the length are found without a search.
-    pub fn span<L: Ledger>(&self, start: usize, end: usize, steps: &mut Steps<L>) -> Span
-        requires some { start < end }
-        requires inside { end ≤ total self.now }
-        ensures span { IsSpan self.now start end result.first result.first_start result.last result.last_end }
-        ensures rise { steps.new ≤ steps.old + ends_cut start end (total self.now) * search_bound (length self.now + 1) }
-        ensures kept { steps.old ≤ steps.new }
-    {
-        let (first, first_start) = self.front(start, steps);
-        let (last, last_end) = self.back(end, steps);
-        Span {
-            first,
-            first_start,
-            last,
-            last_end,
-        }
-    }
-
-    /// The first chunk of rows from `start` on, and the place in it.
-    fn front<L: Ledger>(&self, start: usize, steps: &mut Steps<L>) -> (usize, usize)
-        requires { start < total self.now }
-        ensures chunk { result.0 < length self.now }
-        ensures place { result.1 ≤ slice_index self.now result.0 }
-        ensures row { total (take result.0 self.now) + result.1 ≡ start }
-        ensures rise { steps.new ≤ steps.old + cond (start == 0) 0 1 * search_bound (length self.now + 1) }
-        ensures kept { steps.old ≤ steps.new }
-    {
-        if start == 0 {
-            return (0, 0);
-        }
-        self.find_chunk_idx(start, steps)
-    }
-
-    /// The last chunk of rows to below `end`, and the place there.
-    fn back<L: Ledger>(&self, end: usize, steps: &mut Steps<L>) -> (usize, usize)
-        requires some { 0 < end }
-        requires inside { end ≤ total self.now }
-        ensures chunk { result.0 < length self.now }
-        ensures place { result.1 ≤ slice_index self.now result.0 }
-        ensures row { total (take result.0 self.now) + result.1 ≡ end }
-        ensures full { end ≡ total self.now → result.1 ≡ slice_index self.now result.0 }
-        ensures rise { steps.new ≤ steps.old + cond (end == total self.now) 0 1 * search_bound (length self.now + 1) }
-        ensures kept { steps.old ≤ steps.new }
-    {
-        if end == self.len() {
-            let last = self.nchunks() - 1;
-            return (last, self.chunk_len(last));
-        }
-        let (last, place) = self.find_chunk_idx(end - 1, steps);
-        (last, place + 1)
-    }
-}
-
-/// Where the first number above `index` stands, or the length where there is none.
-fn first_above<L: Ledger>(ends: &[usize], index: usize, steps: &mut Steps<L>) -> usize
-    ensures within { result ≤ length ends.now }
-    ensures below { 0 < result → slice_index ends.now (result - 1) ≤ index }
-    ensures above { result < length ends.now → index < slice_index ends.now result }
-    ensures rise { steps.new ≤ steps.old + search_bound (length ends.now) }
-    ensures kept { steps.old ≤ steps.new }
+/// Numbers as a column of `u64`.
+fn offsets_column(alloc: Global, numbers: &[usize]) -> Res<FlatColumn>
+    ensures ok { IfOk result (λ c. c ≡ flat offset_type (map offset_row numbers.now)) }
+    ensures err { IsOkUnless result ColumnError.OutOfMemory }
 {
-    let mut low = 0;
-    let mut high = ends.len();
-    while low < high {
-        let middle = low + (high - low) / 2;
-        steps.tick();
-        if ends[middle] <= index {
-            low = middle + 1;
-        } else {
-            high = middle;
-        }
+    let mut rows = Vec::new(alloc);
+    for number in numbers {
+        rows.push(Some(Value::Int(*number as i128)))?;
     }
-    low
+    let dtype = DType::Primitive(PType::U64, Nullability::NonNullable);
+    FlatColumn::try_new(alloc, dtype, Seq::from_vec(rows))
 }

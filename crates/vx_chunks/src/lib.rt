@@ -2,5 +2,9 @@
 #![tactic(auto)]
 
 pub mod boundaries;
+pub mod data;
+pub mod plan;
 
-pub use boundaries::{Boundaries, Span};
+pub use boundaries::Boundaries;
+pub use data::ChunkedData;
+pub use plan::SlicePlan;

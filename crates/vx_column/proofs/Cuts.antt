@@ -1,18 +1,24 @@
 -- Cuts of chunks.
 use Rattle.std.proofs.lemmas.Bool.{and_parts, and_from}
-use Rattle.std.proofs.Common.{true, None, ◌≡◌, ℕ, zero, suc, ◌+◌, ◌-◌, ◌*◌, ◌≤◌, ◌<◌, List, [], ◌∷◌, ◌++◌, take, drop, length, map, get_or, max, refl, sym, ◌∙◌, ap, subst, arith, append_assoc, append-nil, length-append}
+use Rattle.std.proofs.lemmas.Bool.Decides.{nat_tests}
+use Rattle.std.proofs.Common.{inl, inr, ◌^◌, Bool, true, false, cond, nat_eq, None, ◌≡◌, ℕ, zero, suc, ◌+◌, ◌-◌, ◌*◌, ◌≤◌, ◌<◌, List, [], ◌∷◌, ◌++◌, take, drop, length, map, get_or, max, refl, sym, ◌∙◌, ap, subst, arith, append_assoc, append-nil, length-append}
 use denote.Param.Weighed.{most, at_most}
 use Rattle.vx_column.proofs.column.Column.TheLaws.{the_size}
-use Rattle.std.proofs.lemmas.List.{take-map, length-map, length-take-le, length-take, get_or-map, get_or-drop, length-drop, take_at, take-take, take_more, take-append-drop}
+use Rattle.std.proofs.lemmas.List.{take-map, length-map, length-take-le, length-take, get_or-map, get_or-drop, length-drop, take_at, take-take, take_more, take-append-drop, map-append}
 use Rattle.std.specs.List.{slice_range}
 use Rattle.std.proofs.Math.Nat.{mul-le-mul, mul-le-mul_left, le_refl}
 use Rattle.std.specs.List.{All, AllByRecursion}
-use Rattle.std.proofs.lemmas.List.Elements.{All-from_recursion, recursion_from_All}
-use Rattle.vx_chunks.specs.Bounds.{total, IsSpan, search_bound, ends_cut}
-use Rattle.vx_chunks.proofs.Powers.{search_bound-le}
+use Rattle.std.proofs.lemmas.List.Elements.{All-from_recursion, recursion_from_All, All-take}
+use Rattle.vx_search.specs.Places.{search_bound}
+use Rattle.vx_chunks.specs.Bounds.{total, ends_cut}
+use Rattle.vx_chunks.specs.Plans.{IsSpan, IsFull}
+use Rattle.vx_chunks.specs.Causes.{SumCause}
+use Rattle.vx_rows.specs.declared.error.ColumnError.{ColumnError}
+use Rattle.vx_rows.specs.declared.error.ColumnError.TheVariants.{OutOfMemory}
+use Rattle.vx_search.proofs.Powers.{search_bound-le}
 use Rattle.vx_base.specs.Column.{Flat, flat}
 use Rattle.vx_rows.specs.declared.dtype.DType.{DType}
-use Rattle.vx_column.specs.Columns.{Rows, type_of, joined, greatest, rows_of, len_of, point_cost, cut_cost, lane_cost, is_plain, all_true, select_bound, IsSound, IsSliceOf}
+use Rattle.vx_column.specs.Columns.{Rows, type_of, joined, greatest, rows_of, len_of, point_cost, cut_cost, lane_cost, is_plain, all_true, select_bound, IsSound, IsSliceOf, IsWhole, last_piece}
 use Rattle.vx_column.specs.declared.column.Chunked.{Chunked}
 use Rattle.vx_column.specs.declared.column.Column.{Column}
 use Rattle.vx_column.specs.declared.column.Column.TheVariants as column
@@ -21,7 +27,7 @@ use Rattle.vx_column.specs.declared.column.Column.TheOpen.{Column-F}
 use Rattle.vx_column.specs.declared.column.Column.TheViews.{roll-Column}
 use Rattle.vx_column.specs.declared.column.Column.TheFolds.{ind-Column, map-Column}
 use Rattle.vx_column.proofs.Layers.{type_chunked, type_flat, rows_chunked, point_chunked, cut_chunked, total_joined, sound_flat, point_least, rows_flat, point_flat, cut_flat, lane_flat, lane_chunked, plain_flat, plain_chunked}
-use Rattle.vx_column.proofs.Lists.{sublist_inside, sublist_across, sublist_front, sublist_rest, sublist_whole, sublist_none, split_at, ends_cut_within, ends_cut_across}
+use Rattle.vx_column.proofs.Lists.{sublist_inside, sublist_across, sublist_front, sublist_rest, sublist_whole, sublist_none, split_at, ends_cut_within, ends_cut_across, greatest-append}
 
 -- the rows of columns, joined
 abbrev pub rows_in : List Column → Rows
@@ -47,6 +53,13 @@ cut_cost_is c = cut_chunked c ∙ ap (λ n. search_bound (n + 1) + greatest (map
 
 pub point_cost_is : (c : Chunked Column) → point_cost (column.Chunked c) ≡ search_bound (length c.chunks + 1) + greatest (map point_cost c.chunks)
 point_cost_is c = point_chunked c ∙ ap (λ n. search_bound (n + 1) + greatest (map point_cost c.chunks)) (length-map c.chunks point_cost)
+
+pub greatest_more : (f : Column → ℕ) (xs : List Column) (k : ℕ) (x : Column) → k < length xs → x ≡ get_or xs k x →
+    greatest (map f (take (k + 1) xs)) ≡ max (greatest (map f (take k xs))) (f x)
+greatest_more f xs k x h e =
+    let more : take (k + 1) xs ≡ take k xs ++ x ∷ [] = take_more xs k x h ∙ ap (λ y. take k xs ++ y ∷ []) (sym e) in
+    let one : max (f x) 0 ≡ f x = omega arith in
+    ap (λ ys. greatest (map f ys)) more ∙ ap greatest (map-append f (take k xs) (x ∷ [])) ∙ greatest-append (map f (take k xs)) (f x ∷ []) ∙ ap (max (greatest (map f (take k xs)))) one
 
 pub total_at : (f : Column → ℕ) (xs : List Column) (k : ℕ) (x : Column) → k < length xs → x ≡ get_or xs k x → f x ≤ total (map f xs)
 total_at f [] k x h e = absurd (omega arith)
@@ -186,24 +199,79 @@ plain_parts xs first last x y m split front back f b all =
     and_from (is_plain front) (all_true (map is_plain (m ++ back ∷ []))) (f at_x.0)
     (plain_join m (back ∷ []) round_m.0 (and_from (is_plain back) true (b at_y.0) refl))
 
+-- what holds of a last piece left out and of one kept
+pub by_last : (P : List Column → Type 0) (back : Column) → (len_of back ≡ 0 → P []) → P (back ∷ []) → P (last_piece back)
+by_last P back f p = go (nat_eq (len_of back) 0) refl
+  where
+    go : (b : Bool) → nat_eq (len_of back) 0 ≡ b → P (cond b [] (back ∷ []))
+    go true e = f (grind (arith, nat_tests))
+    go false e = p
+
+empty_rows : (rows : Rows) → length rows ≡ 0 → rows ≡ []
+empty_rows [] h = refl
+empty_rows (r ∷ rows) h = absurd (omega arith)
+
+rows_last : (m : List Column) (back : Column) → rows_in (m ++ last_piece back) ≡ rows_in (m ++ back ∷ [])
+rows_last m back =
+    by_last (λ ys. rows_in (m ++ ys) ≡ rows_in (m ++ back ∷ [])) back
+    (λ none. rows-append m [] ∙ ap (λ r. rows_in m ++ r) (sym (ap (λ r. r ++ []) (empty_rows (rows_of back) none))) ∙ sym (rows-append m (back ∷ []))) refl
+
+greatest_last : (f : Column → ℕ) (front : Column) (m : List Column) (back : Column) → greatest (map f (front ∷ (m ++ last_piece back))) ≤ greatest (map f (front ∷ (m ++ back ∷ [])))
+greatest_last f front m back =
+    by_last (λ ys. greatest (map f (front ∷ (m ++ ys))) ≤ greatest (map f (front ∷ (m ++ back ∷ [])))) back (λ _. omega (arith, fewer m)) (le_refl (greatest (map f (front ∷ (m ++ back ∷ [])))))
+  where
+    fewer : (m : List Column) → greatest (map f (m ++ [])) ≤ greatest (map f (m ++ back ∷ []))
+    fewer [] = omega arith
+    fewer (x ∷ m) = omega (arith, fewer m)
+
+pub total_last : (f : Column → ℕ) (front : Column) (m : List Column) (back : Column) → total (map f (front ∷ (m ++ last_piece back))) ≤ total (map f (front ∷ (m ++ back ∷ [])))
+total_last f front m back =
+    by_last (λ ys. total (map f (front ∷ (m ++ ys))) ≤ total (map f (front ∷ (m ++ back ∷ [])))) back (λ _. omega (arith, fewer m)) (le_refl (total (map f (front ∷ (m ++ back ∷ [])))))
+  where
+    fewer : (m : List Column) → total (map f (m ++ [])) ≤ total (map f (m ++ back ∷ []))
+    fewer [] = omega arith
+    fewer (x ∷ m) = omega (arith, fewer m)
+
+plain_last : (front : Column) (m : List Column) (back : Column) → all_true (map is_plain (front ∷ (m ++ back ∷ []))) ≡ true → all_true (map is_plain (front ∷ (m ++ last_piece back))) ≡ true
+plain_last front m back all =
+    by_last (λ ys. all_true (map is_plain (front ∷ (m ++ ys))) ≡ true) back
+    (λ _. let p = plain_split (front ∷ m) (back ∷ []) all in plain_join (front ∷ m) [] p.0 refl) all
+
+pub all_last : (P : Column → Type 0) (front : Column) (m : List Column) (back : Column) → All P (front ∷ (m ++ back ∷ [])) → All P (front ∷ (m ++ last_piece back))
+all_last P front m back all =
+    by_last (λ ys. All P (front ∷ (m ++ ys))) back (λ _. subst (All P) (sym (append-nil (front ∷ m))) (fewer (front ∷ m) (back ∷ []) all)) all
+  where
+    fewer : (xs ys : List Column) → All P (xs ++ ys) → All P xs
+    fewer xs ys h = subst (All P) (take_at xs ys (length xs) refl) (All-take P (length xs) (xs ++ ys) h)
+
+-- a sum that fits is refused for want of memory alone
+pub only_memory_of_sum : (sum : ℕ) (e : ColumnError) → sum < 2 ^ 64 → SumCause sum e → e ≡ OutOfMemory
+only_memory_of_sum sum e h (inl memory) = memory
+only_memory_of_sum sum e h (inr long) = absurd (omega (arith, long.1))
+
+length_last : (front : Column) (m : List Column) (back : Column) → length (front ∷ (m ++ last_piece back)) ≤ length (front ∷ (m ++ back ∷ []))
+length_last front m back =
+    by_last (λ ys. length (front ∷ (m ++ ys)) ≤ length (front ∷ (m ++ back ∷ []))) back
+    (λ _. omega (arith, length-append m [], length-append m (back ∷ []))) (le_refl (length (front ∷ (m ++ back ∷ []))))
+
 pub cut_many : (c a : Chunked Column) (start end first s last e : ℕ) → IsSpan (map len_of c.chunks) start end first s last e → first < last →
     (x y : Column) (m : List Column) → x ≡ get_or c.chunks first x → y ≡ get_or c.chunks last y → m ≡ slice_range c.chunks (first + 1) last →
     (front back : Column) → IsSliceOf x front s (len_of x) → IsSliceOf y back 0 e →
-    IsSound (column.Chunked a) → a.chunks ≡ front ∷ (m ++ back ∷ []) → a.dtype ≡ c.dtype → IsSliceOf (column.Chunked c) (column.Chunked a) start end
+    IsSound (column.Chunked a) → a.chunks ≡ front ∷ (m ++ last_piece back) → a.dtype ≡ c.dtype → IsSliceOf (column.Chunked c) (column.Chunked a) start end
 cut_many c a start end first s last e span less x y m at_x at_y mid front back f b sound made typed =
     let xs = c.chunks in
     let within : last < length xs = omega (arith, span.within, length-map xs len_of) in
     let split : Split xs first last x y m = split_twice xs first last x y m less within at_x at_y mid in
-    let count : length a.chunks ≤ length xs = omega (arith, ap length made, length-append m (back ∷ []), split.middle_long) in
+    let count : length a.chunks ≤ length xs = omega (arith, ap length made, length_last front m back, length-append m (back ∷ []), split.middle_long) in
     let bound : search_bound (length a.chunks + 1) ≤ search_bound (length xs + 1) = search_bound-le (length a.chunks + 1) (length xs + 1) (omega arith) in
     record {
       sound = sound;
       dtype = type_chunked a ∙ typed ∙ sym (type_chunked c);
-      rows = rows_chunked a ∙ ap rows_in made ∙ rows_many xs start end first s last e span less x y m split at_x at_y front back f.rows b.rows ∙ ap (λ r. slice_range r start end) (sym (rows_chunked c));
-      point = omega (arith, point_cost_is a, point_cost_is c, bound, ap (λ r. greatest (map point_cost r)) made, greatest_parts point_cost xs first last x y m split front back f.point b.point);
-      cut = omega (arith, cut_cost_is a, cut_cost_is c, bound, ap (λ r. greatest (map cut_cost r)) made, greatest_parts cut_cost xs first last x y m split front back f.cut b.cut);
-      lanes = omega (arith, lane_chunked a, lane_chunked c, ap (λ r. total (map lane_cost r)) made, total_parts lane_cost xs first last x y m split front back f.lanes b.lanes);
-      plain = λ all. plain_chunked a ∙ ap (λ r. all_true (map is_plain r)) made ∙ plain_parts xs first last x y m split front back f.plain b.plain (sym (plain_chunked c) ∙ all);
+      rows = rows_chunked a ∙ ap rows_in made ∙ ap (λ r. rows_of front ++ r) (rows_last m back) ∙ rows_many xs start end first s last e span less x y m split at_x at_y front back f.rows b.rows ∙ ap (λ r. slice_range r start end) (sym (rows_chunked c));
+      point = omega (arith, point_cost_is a, point_cost_is c, bound, ap (λ r. greatest (map point_cost r)) made, greatest_last point_cost front m back, greatest_parts point_cost xs first last x y m split front back f.point b.point);
+      cut = omega (arith, cut_cost_is a, cut_cost_is c, bound, ap (λ r. greatest (map cut_cost r)) made, greatest_last cut_cost front m back, greatest_parts cut_cost xs first last x y m split front back f.cut b.cut);
+      lanes = omega (arith, lane_chunked a, lane_chunked c, ap (λ r. total (map lane_cost r)) made, total_last lane_cost front m back, total_parts lane_cost xs first last x y m split front back f.lanes b.lanes);
+      plain = λ all. plain_chunked a ∙ ap (λ r. all_true (map is_plain r)) made ∙ plain_last front m back (plain_parts xs first last x y m split front back f.plain b.plain (sym (plain_chunked c) ∙ all));
     }
 
 -- the pieces are no longer than the rows that are asked for
@@ -274,6 +342,35 @@ pub rise_front : (c : Chunked Column) (start end first s last e : ℕ) → IsSpa
     mid ≤ old + ends_cut start end (len_of (column.Chunked c)) * search_bound (length c.chunks + 1) → new ≤ mid + ends_cut s (len_of x) (len_of x) * cut_cost x →
     new ≤ old + ends_cut start end (len_of (column.Chunked c)) * cut_cost (column.Chunked c)
 rise_front c start end first s last e span x y at_x at_y old mid new h1 h2 = rise_across c start end first s last e span x y at_x at_y old mid new new h1 h2 (omega arith)
+
+-- what is found without a cut
+pub rise_plan : (c : Chunked Column) (start end old new : ℕ) → new ≤ old + ends_cut start end (len_of (column.Chunked c)) * search_bound (length c.chunks + 1) →
+    new ≤ old + ends_cut start end (len_of (column.Chunked c)) * cut_cost (column.Chunked c)
+rise_plan c start end old new h =
+    let least : search_bound (length c.chunks + 1) ≤ cut_cost (column.Chunked c) = omega (arith, cut_cost_is c) in
+    omega (arith, h, mul-le-mul_left (ends_cut start end (len_of (column.Chunked c))) least)
+
+-- all rows of a column are the column
+pub whole_slice : (whole part : Column) (start end : ℕ) → part ≡ whole → IsSound whole → start ≡ 0 → end ≡ len_of whole → IsSliceOf whole part start end
+whole_slice whole part start end same sound front back = subst (λ p. IsSliceOf whole p start end) (sym same) (record {
+  sound = sound;
+  dtype = refl;
+  rows = sym (ap (λ n. slice_range (rows_of whole) n end) front ∙ sublist_whole (rows_of whole) end back);
+  point = omega arith;
+  cut = omega arith;
+  lanes = omega arith;
+  plain = λ all. all;
+})
+
+-- a range that is no full one of the lengths is no full one of the column
+pub not_whole : (c : Chunked Column) (start end : ℕ) → (IsFull (map len_of c.chunks) start end → ⊥) → IsWhole (column.Chunked c) start end → ⊥
+not_whole c start end part whole = part (whole.0, whole.1 ∙ sym (total_is c))
+
+-- a window over all rows is the flat column
+pub flat_same : (self : Column) (all rows : Flat) (start end : ℕ) → self ≡ column.Flat all → rows ≡ flat all.dtype (slice_range all.rows start end) → IsWhole self start end → column.Flat rows ≡ self
+flat_same self all rows start end is cut whole =
+    let long : end ≡ length all.rows = whole.1 ∙ ap len_of is ∙ ap length (rows_flat all) in
+    ap column.Flat (cut ∙ ap (flat all.dtype) (ap (λ n. slice_range all.rows n end) whole.0 ∙ sublist_whole all.rows end long)) ∙ sym is
 
 -- an empty column
 pub empty_slice : (whole : Column) (rows : Flat) (t : DType) (at : ℕ) → rows ≡ flat t [] → t ≡ type_of whole → IsSliceOf whole (column.Flat rows) at at

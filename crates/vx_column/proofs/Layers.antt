@@ -2,8 +2,9 @@
 use Rattle.std.proofs.Common.{Bool, true, ◌≡◌, ℕ, ◌+◌, ◌≤◌, List, [], ◌∷◌, map, length, refl, sym, ◌∙◌, ap, subst, arith, length-append}
 use Rattle.std.specs.List.{All, AllByRecursion}
 use Rattle.std.proofs.lemmas.List.Elements.{All-from_recursion, recursion_from_All}
-use Rattle.vx_chunks.specs.Bounds.{search_bound, total}
-use Rattle.vx_chunks.proofs.Powers.{search_bound_positive}
+use Rattle.vx_search.specs.Places.{search_bound}
+use Rattle.vx_chunks.specs.Bounds.{total}
+use Rattle.vx_search.proofs.Powers.{search_bound_positive}
 use Rattle.vx_base.specs.Column.{Flat}
 use Rattle.vx_rows.specs.declared.dtype.DType.{DType}
 use Rattle.vx_column.specs.Columns.{Rows, type_of, type_step, IsOf, lane_cost, lane_step, is_plain, plain_step, all_true, rows_of, rows_step, joined, point_cost, point_step, cut_cost, cut_step, greatest, len_of, IsSound, IsSoundLayer}

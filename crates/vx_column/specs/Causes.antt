@@ -11,3 +11,7 @@ SliceCause len start end e =
 -- row index of len rows is none
 abbrev pub PointCause : ℕ → ℕ → ColumnError → Type 0
 PointCause len index e = (e ≡ OutOfMemory) ⊎ ((e ≡ OutOfBounds index len) × (len ≤ index))
+
+-- the same where no memory is taken
+abbrev pub BeyondCause : ℕ → ℕ → ColumnError → Type 0
+BeyondCause len index e = (e ≡ OutOfBounds index len) × (len ≤ index)

@@ -1,5 +1,5 @@
 -- What a column means, by recursion over it.
-use Rattle.std.specs.Prelude.{◌≡◌, ◌≤◌, ◌<◌, ◌^◌, ◌*◌, ◌⊎◌, ℕ, ◌+◌, IsTrue, List, [], ◌∷◌, ◌++◌, map, max, length, Option, Bool, true, ◌&&◌}
+use Rattle.std.specs.Prelude.{◌≡◌, ◌≤◌, ◌<◌, ◌^◌, ◌*◌, ◌⊎◌, ℕ, ◌+◌, IsTrue, List, [], ◌∷◌, ◌++◌, map, max, length, Option, Bool, true, ◌&&◌, codes, cond, ◌==◌}
 use Rattle.std.specs.List.{slice_range, All}
 use Rattle.vx_rows.specs.declared.dtype.DType.{DType}
 use Rattle.vx_rows.specs.declared.value.Value.{Value}
@@ -7,7 +7,8 @@ use Rattle.vx_rows.specs.declared.error.ColumnError.{ColumnError}
 use Rattle.vx_rows.specs.declared.error.ColumnError.TheVariants.{OutOfMemory, Malformed}
 use Rattle.vx_rows.specs.declared.error.Rule.TheVariants.{TooLong, ChunkType}
 use Rattle.vx_base.specs.Column.{Flat, flat}
-use Rattle.vx_chunks.specs.Bounds.{search_bound, total}
+use Rattle.vx_search.specs.Places.{search_bound}
+use Rattle.vx_chunks.specs.Bounds.{total}
 use Rattle.vx_column.specs.declared.column.Chunked.{Chunked}
 use Rattle.vx_column.specs.declared.column.Column.{Column}
 use Rattle.vx_column.specs.declared.column.Column.TheOpen.{Column-F}
@@ -29,6 +30,14 @@ greatest (n ∷ ns) = max n (greatest ns)
 abbrev pub all_true : List Bool → Bool
 all_true [] = true
 all_true (b ∷ bs) = b && all_true bs
+
+abbrev pub id_step : Column-F (List ℕ) → List ℕ
+id_step (Column-F.Flat c) = codes "vx.flat"
+id_step (Column-F.Chunked chunked) = codes "vortex.chunked"
+
+-- the name of the encoding
+abbrev pub id_of : Column → List ℕ
+id_of = fold-Column (List ℕ) id_step
 
 abbrev pub type_step : Column-F DType → DType
 type_step (Column-F.Flat c) = c.dtype
@@ -116,6 +125,14 @@ pub record IsSliceOf (whole part : Column) (start end : ℕ) : Type 0 where
   pub cut : cut_cost part ≤ cut_cost whole
   pub lanes : lane_cost part ≤ lane_cost whole
   pub plain : IsTrue (is_plain whole) → IsTrue (is_plain part)
+
+-- all rows
+abbrev pub IsWhole : Column → ℕ → ℕ → Type 0
+IsWhole column start end = (start ≡ 0) × (end ≡ len_of column)
+
+-- a last piece, left out where it has no row
+abbrev pub last_piece : Column → List Column
+last_piece back = cond (len_of back == 0) [] (back ∷ [])
 
 -- why a chunked column is not made
 abbrev pub ChunksCause : DType → List Column → ColumnError → Type 0

@@ -1,3 +1,4 @@
 pub mod Columns
+pub mod Chunks
 pub mod Causes
 pub mod Probes

@@ -1,20 +1,22 @@
 //! Columns: rows of a type, flat or assembled of other columns.
-ghost use Rattle.std.specs.Prelude.{◌≡◌, ℕ, ◌+◌, ◌*◌, ◌^◌, ◌<◌, ◌≤◌, ◌↔◌, [], ◌∷◌, ◌++◌, length, take, map};
+ghost use Rattle.std.specs.Prelude.{◌≡◌, ℕ, ◌+◌, ◌-◌, ◌*◌, ◌^◌, ◌<◌, ◌≤◌, ◌↔◌, [], ◌∷◌, ◌++◌, length, take, map, min};
 ghost use Rattle.std.specs.Prelude.{slice_index, get_or, None, IfOk, OnOk, OnErr, IfErr, IsOk, IsTrue, IsFalse, IsOkUnless};
-ghost use Rattle.std.specs.Prelude.{All};
+ghost use Rattle.std.specs.Prelude.{All, is_some};
 ghost use Rattle.vx_rows.specs.Sizes.{type_takes_memory};
 ghost use Rattle.vx_chunks.specs.Causes.{SumCause};
-ghost use Rattle.vx_chunks.specs.Bounds.{total, ends_cut, search_bound, IsSpan};
+ghost use Rattle.vx_search.specs.Places.{search_bound};
+ghost use Rattle.vx_chunks.specs.Bounds.{total, ends_cut};
+ghost use Rattle.vx_chunks.specs.Plans.{IsPlanOf};
 ghost use Rattle.vx_column.specs.Causes.{SliceCause};
-ghost use Rattle.vx_column.specs.Columns.{rows_of, len_of, type_of, IsOf, IsSound, point_cost, cut_cost, select_bound};
-ghost use Rattle.vx_column.specs.Columns.{IsSliceOf, ChunksCause, chunks_of, declared_type};
+ghost use Rattle.vx_column.specs.Columns.{rows_of, len_of, type_of, id_of, IsOf, IsSound, point_cost, cut_cost, select_bound};
+ghost use Rattle.vx_column.specs.Columns.{IsSliceOf, IsWhole, ChunksCause, chunks_of, declared_type, last_piece};
 ghost use Rattle.vx_column.specs.declared.column.Column.TheVariants.{Chunked as chunked_column};
 
 use std::alloc::Global;
 use std::ops::Range;
 use vx_base::dtype::same_type;
 use vx_base::{ColumnError, DType, FlatColumn, Ledger, Path, Res, Row, Rule, Seq, Shared, Steps};
-use vx_chunks::{Boundaries, Span};
+use vx_chunks::{Boundaries, SlicePlan};
 
 /// Chunks of one type, whose rows are joined in order. Generic in the child, so that columns are the only type that
 /// holds itself.
@@ -45,6 +47,16 @@ impl Column {
         match self {
             Column::Flat(rows) => rows.dtype(),
             Column::Chunked(chunked) => &chunked.dtype,
+        }
+    }
+
+    /// The name of the encoding.
+    pub fn id(&self) -> &str
+        ensures { result.now ≡ id_of self.now }
+    {
+        match self {
+            Column::Flat(_) => "vx.flat",
+            Column::Chunked(_) => "vortex.chunked",
         }
     }
 
@@ -81,6 +93,7 @@ impl Column {
         ensures ordered { OnOk result (range.start ≤ range.end) }
         ensures inside { OnOk result (range.end ≤ len_of self.now) }
         ensures ok { IfOk result (λ part. IsSliceOf self.now part range.start range.end) }
+        ensures same { IfOk result (λ part. IsWhole self.now range.start range.end → part ≡ self.now) }
         ensures err { IfErr result (SliceCause (len_of self.now) range.start range.end) }
         ensures rise { steps.new ≤ steps.old
             + ends_cut range.start range.end (len_of self.now) * cut_cost self.now }
@@ -110,16 +123,11 @@ impl Column {
         requires ordered { start ≤ end }
         requires inside { end ≤ len_of self.now }
         ensures ok { IfOk result (λ part. IsSliceOf self.now part start end) }
+        ensures same { IfOk result (λ part. IsWhole self.now start end → part ≡ self.now) }
         ensures err { IsOkUnless result ColumnError.OutOfMemory }
         ensures rise { steps.new ≤ steps.old + ends_cut start end (len_of self.now) * cut_cost self.now }
         ensures kept { steps.old ≤ steps.new }
     {
-        if start == 0 && end == self.len() {
-            return self.share(alloc);
-        }
-        if start == end {
-            return self.none(alloc);
-        }
         match self {
             Column::Flat(rows) => {
                 let rows = rows.window(start..end)?;
@@ -127,16 +135,6 @@ impl Column {
             }
             Column::Chunked(chunked) => chunked.cut(alloc, start, end, steps),
         }
-    }
-
-    /// A column of this type without rows.
-    fn none(&self, alloc: Global) -> Res<Column>
-        ensures ok { IfOk result (λ part. (at : ℕ) → IsSliceOf self.now part at at) }
-        ensures err { IsOkUnless result ColumnError.OutOfMemory }
-    {
-        let dtype = self.dtype().copy()?;
-        let rows = FlatColumn::empty(alloc, dtype)?;
-        Ok(Column::Flat(rows))
     }
 }
 
@@ -155,6 +153,45 @@ impl Column {
         match self {
             Column::Flat(rows) => rows.row_at(alloc, at, steps),
             Column::Chunked(chunked) => chunked.row(alloc, at, steps),
+        }
+    }
+
+    /// Whether row `at` is a value.
+    #[cycle(is_valid)]
+    pub(crate) fn is_valid<L: Ledger>(&self, at: usize, steps: &mut Steps<L>) -> bool
+        requires sound { IsSound self.now }
+        requires inside { at < len_of self.now }
+        ensures value { result ≡ is_some (get_or (rows_of self.now) at None) }
+        ensures rise { steps.new ≤ steps.old + point_cost self.now }
+        ensures kept { steps.old ≤ steps.new }
+    {
+        match self {
+            Column::Flat(rows) => rows.is_valid_at(at, steps),
+            Column::Chunked(chunked) => chunked.is_valid(at, steps),
+        }
+    }
+
+    /// The most reads and comparisons that a read of one row takes, held at `u64::MAX`.
+    #[cycle(point_cost)]
+    pub fn point_cost(&self) -> u64
+        requires { IsSound self.now }
+        ensures { result ≡ min (point_cost self.now) (2 ^ 64 - 1) }
+    {
+        match self {
+            Column::Flat(_) => 1,
+            Column::Chunked(chunked) => chunked.point_cost(),
+        }
+    }
+
+    /// The most comparisons and reads that a cut end of a slice takes, held at `u64::MAX`.
+    #[cycle(cut_cost)]
+    pub fn cut_cost(&self) -> u64
+        requires { IsSound self.now }
+        ensures { result ≡ min (cut_cost self.now) (2 ^ 64 - 1) }
+    {
+        match self {
+            Column::Flat(_) => 0,
+            Column::Chunked(chunked) => chunked.cut_cost(),
         }
     }
 
@@ -295,49 +332,62 @@ impl Chunked<Column> {
         steps: &mut Steps<L>,
     ) -> Res<Column>
         requires sound { IsSound (chunked_column self.now) }
-        requires some { start < end }
+        requires ordered { start ≤ end }
         requires inside { end ≤ len_of (chunked_column self.now) }
         ensures ok { IfOk result (λ part. IsSliceOf (chunked_column self.now) part start end) }
+        ensures same { IfOk result (λ part.
+            IsWhole (chunked_column self.now) start end → part ≡ chunked_column self.now) }
         ensures err { IsOkUnless result ColumnError.OutOfMemory }
-        ensures rise { steps.new ≤ steps.old + ends_cut start end (len_of (chunked_column self.now)) * cut_cost (chunked_column self.now) }
+        ensures rise { steps.new ≤ steps.old
+            + ends_cut start end (len_of (chunked_column self.now)) * cut_cost (chunked_column self.now) }
         ensures kept { steps.old ≤ steps.new }
     {
-        let span = self.span(start, end, steps);
+        let plan = self.plan_slice(start, end, steps);
         let chunks = self.children();
-        let first = &chunks[span.first];
-        if span.first == span.last {
-            return first.cut(alloc, span.first_start, span.last_end, steps);
+        match plan {
+            SlicePlan::Whole => Ok(Column::Chunked(self.share()?)),
+            SlicePlan::Empty => self.none(alloc),
+            SlicePlan::One { chunk, start, end } => chunks[chunk].cut(alloc, start, end, steps),
+            SlicePlan::Many {
+                first,
+                first_start,
+                last,
+                last_end,
+            } => {
+                let head = &chunks[first];
+                let tail = &chunks[last];
+                let front = head.cut(alloc, first_start, head.len(), steps)?;
+                let back = tail.cut(alloc, 0, last_end, steps)?;
+                let array = self.join(alloc, front, &chunks[first + 1..last], back)?;
+                Ok(Column::Chunked(array))
+            }
         }
-        let last = &chunks[span.last];
-        let front = first.cut(alloc, span.first_start, first.len(), steps)?;
-        let back = last.cut(alloc, 0, span.last_end, steps)?;
-        let array = self.join(alloc, front, &chunks[span.first + 1..span.last], back)?;
-        Ok(Column::Chunked(array))
     }
 
-    /// The chunks in order.
-    fn children(&self) -> &[Column]
-        requires { IsSound (chunked_column self.now) }
-        ensures value { result.now ≡ chunks_of self.now }
-        ensures sound { All IsSound result.now }
-        ensures types { All (IsOf (declared_type self.now)) result.now }
-    {
-        self.chunks.get().as_slice()
-    }
-
-    /// Where rows `start` to below `end` lie.
-    fn span<L: Ledger>(&self, start: usize, end: usize, steps: &mut Steps<L>) -> Span
+    /// The pieces that rows `start` to below `end` are.
+    fn plan_slice<L: Ledger>(&self, start: usize, end: usize, steps: &mut Steps<L>) -> SlicePlan
         requires sound { IsSound (chunked_column self.now) }
-        requires some { start < end }
+        requires ordered { start ≤ end }
         requires inside { end ≤ len_of (chunked_column self.now) }
-        ensures span { IsSpan (map len_of (chunks_of self.now)) start end result.first result.first_start result.last result.last_end }
-        ensures rise { steps.new ≤ steps.old + ends_cut start end (len_of (chunked_column self.now)) * search_bound (length (chunks_of self.now) + 1) }
+        ensures plan { IsPlanOf (map len_of (chunks_of self.now)) start end result }
+        ensures rise { steps.new ≤ steps.old + ends_cut start end (len_of (chunked_column self.now))
+            * search_bound (length (chunks_of self.now) + 1) }
         ensures kept { steps.old ≤ steps.new }
     {
-        self.boundaries.span(start, end, steps)
+        self.boundaries().plan_slice(start..end, steps)
     }
 
-    /// The columns in order, those in the middle shared.
+    /// A column of this type without rows.
+    fn none(&self, alloc: Global) -> Res<Column>
+        ensures ok { IfOk result (λ part. (at : ℕ) → IsSliceOf (chunked_column self.now) part at at) }
+        ensures err { IsOkUnless result ColumnError.OutOfMemory }
+    {
+        let dtype = self.dtype.copy()?;
+        let rows = FlatColumn::empty(alloc, dtype)?;
+        Ok(Column::Flat(rows))
+    }
+
+    /// The columns in order, those in the middle shared, and the last one left out where it has no row.
     fn join(
         &self,
         alloc: Global,
@@ -348,7 +398,7 @@ impl Chunked<Column> {
         requires sound { All IsSound (front ∷ (middle.now ++ back ∷ [])) }
         requires types { All (IsOf (declared_type self.now)) (front ∷ (middle.now ++ back ∷ [])) }
         requires fits { total (map len_of (front ∷ (middle.now ++ back ∷ []))) < 2 ^ 64 }
-        ensures chunks { IfOk result (λ array. (chunks_of array ≡ front ∷ (middle.now ++ back ∷ []))
+        ensures chunks { IfOk result (λ array. (chunks_of array ≡ front ∷ (middle.now ++ last_piece back))
             × (declared_type array ≡ declared_type self.now)) }
         ensures sound { IfOk result (λ array. IsSound (chunked_column array)) }
         ensures err { IsOkUnless result ColumnError.OutOfMemory }
@@ -360,9 +410,10 @@ impl Chunked<Column> {
     }
 }
 
-/// The columns in order, those in the middle shared.
+/// The columns in order, those in the middle shared, and the last one left out where it has no row.
 fn gather(alloc: Global, front: Column, middle: &[Column], back: Column) -> Res<Vec<Column>>
-    ensures ok { IfOk result (λ columns. columns.items ≡ front ∷ (middle.now ++ back ∷ [])) }
+    requires { IsSound back }
+    ensures ok { IfOk result (λ columns. columns.items ≡ front ∷ (middle.now ++ last_piece back)) }
     ensures err { IsOkUnless result ColumnError.OutOfMemory }
 {
     let mut columns = Vec::new(alloc);
@@ -370,22 +421,52 @@ fn gather(alloc: Global, front: Column, middle: &[Column], back: Column) -> Res<
     for column in middle {
         columns.push(column.share(alloc)?)?;
     }
-    columns.push(back)?;
+    if back.len() > 0 {
+        columns.push(back)?;
+    }
     Ok(columns)
 }
 
 impl Chunked<Column> {
-    /// The chunk that holds a row, and the row's place in it.
+    /// The chunks in order.
+    pub(crate) fn children(&self) -> &[Column]
+        requires { IsSound (chunked_column self.now) }
+        ensures value { result.now ≡ chunks_of self.now }
+        ensures sound { All IsSound result.now }
+        ensures types { All (IsOf (declared_type self.now)) result.now }
+    {
+        self.chunks.get().as_slice()
+    }
+
+    /// Where the chunks lie.
+    pub(crate) fn boundaries(&self) -> &Boundaries
+        requires { IsSound (chunked_column self.now) }
+        ensures { result.now ≡ map len_of (chunks_of self.now) }
+    {
+        &self.boundaries
+    }
+
+    /// The type that is declared for all chunks.
+    pub(crate) fn dtype(&self) -> &DType
+        ensures { result.now ≡ declared_type self.now }
+    {
+        &self.dtype
+    }
+
+    /// The chunk that holds a row, never an empty one, and the row's place in it. An index at the length names the last
+    /// chunk and its length, or (0, 0) where there is no chunk.
     pub fn find_chunk_idx<L: Ledger>(&self, index: usize, steps: &mut Steps<L>) -> (usize, usize)
         requires sound { IsSound (chunked_column self.now) }
-        requires inside { index < len_of (chunked_column self.now) }
-        ensures chunk { result.0 < length (chunks_of self.now) }
-        ensures place { result.1 < slice_index (map len_of (chunks_of self.now)) result.0 }
+        requires inside { index ≤ len_of (chunked_column self.now) }
         ensures row { total (take result.0 (map len_of (chunks_of self.now))) + result.1 ≡ index }
+        ensures inside { index < len_of (chunked_column self.now) → (result.0 < length (chunks_of self.now))
+            × (result.1 < slice_index (map len_of (chunks_of self.now)) result.0) }
+        ensures last { index ≡ len_of (chunked_column self.now) → (result.0 ≡ length (chunks_of self.now) - 1)
+            × (result.1 ≡ slice_index (map len_of (chunks_of self.now)) result.0) }
         ensures rise { steps.new ≤ steps.old + search_bound (length (chunks_of self.now) + 1) }
         ensures kept { steps.old ≤ steps.new }
     {
-        self.boundaries.find_chunk_idx(index, steps)
+        self.boundaries().find_chunk_idx(index, steps)
     }
 
     #[cycle(row)]
@@ -401,5 +482,42 @@ impl Chunked<Column> {
         let (chunk, place) = self.find_chunk_idx(at, steps);
         let chunks = self.children();
         chunks[chunk].row(alloc, place, steps)
+    }
+
+    #[cycle(is_valid)]
+    fn is_valid<L: Ledger>(&self, at: usize, steps: &mut Steps<L>) -> bool
+        requires sound { IsSound (chunked_column self.now) }
+        requires inside { at < len_of (chunked_column self.now) }
+        ensures value { result ≡ is_some (get_or (rows_of (chunked_column self.now)) at None) }
+        ensures rise { steps.new ≤ steps.old + point_cost (chunked_column self.now) }
+        ensures kept { steps.old ≤ steps.new }
+    {
+        let (chunk, place) = self.find_chunk_idx(at, steps);
+        let chunks = self.children();
+        chunks[chunk].is_valid(place, steps)
+    }
+
+    #[cycle(point_cost)]
+    fn point_cost(&self) -> u64
+        requires { IsSound (chunked_column self.now) }
+        ensures { result ≡ min (point_cost (chunked_column self.now)) (2 ^ 64 - 1) }
+    {
+        let mut greatest = 0;
+        for chunk in self.children() {
+            greatest = chunk.point_cost().max(greatest);
+        }
+        self.boundaries().search_cost().saturating_add(greatest)
+    }
+
+    #[cycle(cut_cost)]
+    fn cut_cost(&self) -> u64
+        requires { IsSound (chunked_column self.now) }
+        ensures { result ≡ min (cut_cost (chunked_column self.now)) (2 ^ 64 - 1) }
+    {
+        let mut greatest = 0;
+        for chunk in self.children() {
+            greatest = chunk.cut_cost().max(greatest);
+        }
+        self.boundaries().search_cost().saturating_add(greatest)
     }
 }

@@ -1,7 +1,8 @@
 //! Reads of a column one row at a time.
-ghost use Rattle.std.specs.Prelude.{◌≡◌, ◌+◌, ◌≤◌, ◌<◌, get_or, None, IfOk, IfErr, OnOk};
-ghost use Rattle.vx_column.specs.Causes.{PointCause};
-ghost use Rattle.vx_column.specs.Columns.{rows_of, len_of, IsSound, point_cost};
+ghost use Rattle.std.specs.Prelude.{◌≡◌, ◌+◌, ◌≤◌, ◌<◌, get_or, None, IfOk, IfErr, OnOk, IsOk, IsFalse, is_some, is_none};
+ghost use Rattle.vx_rows.specs.Sizes.{type_takes_memory};
+ghost use Rattle.vx_column.specs.Causes.{PointCause, BeyondCause};
+ghost use Rattle.vx_column.specs.Columns.{type_of, rows_of, len_of, IsSound, point_cost};
 ghost use Rattle.vx_column.specs.Probes.{probed};
 
 use crate::column::Column;
@@ -45,6 +46,8 @@ impl<'a> ArrayProbe<'a> {
         ensures ok { IfOk result (λ row. row ≡ get_or (rows_of (probed self.old)) index None) }
         ensures inside { OnOk result (index < len_of (probed self.old)) }
         ensures err { IfErr result (PointCause (len_of (probed self.old)) index) }
+        ensures free { IsFalse (type_takes_memory (type_of (probed self.old))) →
+            index < len_of (probed self.old) → IsOk result }
         ensures rise { steps.new ≤ steps.old + point_cost (probed self.old) }
         ensures kept { steps.old ≤ steps.new }
     {
@@ -57,5 +60,49 @@ impl<'a> ArrayProbe<'a> {
                 column.row(alloc, index, steps)
             }
         }
+    }
+
+    /// Whether the row at an index is a value. Refuses `OutOfBounds` exactly where there is none. Takes no memory.
+    pub fn execute_is_valid<L: Ledger>(
+        &mut self,
+        _alloc: Global,
+        index: usize,
+        steps: &mut Steps<L>,
+    ) -> Res<bool>
+        requires { IsSound (probed self.old) }
+        ensures same { probed self.new ≡ probed self.old }
+        ensures ok { IfOk result (λ valid. valid ≡ is_some (get_or (rows_of (probed self.old)) index None)) }
+        ensures inside { OnOk result (index < len_of (probed self.old)) }
+        ensures err { IfErr result (BeyondCause (len_of (probed self.old)) index) }
+        ensures rise { steps.new ≤ steps.old + point_cost (probed self.old) }
+        ensures kept { steps.old ≤ steps.new }
+    {
+        match self {
+            ArrayProbe::Once(column) => {
+                let len = column.len();
+                if index >= len {
+                    return Err(ColumnError::OutOfBounds { index, len });
+                }
+                Ok(column.is_valid(index, steps))
+            }
+        }
+    }
+
+    /// Whether the row at an index is nothing. Refuses `OutOfBounds` exactly where there is none. Takes no memory.
+    pub fn execute_is_invalid<L: Ledger>(
+        &mut self,
+        alloc: Global,
+        index: usize,
+        steps: &mut Steps<L>,
+    ) -> Res<bool>
+        requires { IsSound (probed self.old) }
+        ensures same { probed self.new ≡ probed self.old }
+        ensures ok { IfOk result (λ invalid. invalid ≡ is_none (get_or (rows_of (probed self.old)) index None)) }
+        ensures inside { OnOk result (index < len_of (probed self.old)) }
+        ensures err { IfErr result (BeyondCause (len_of (probed self.old)) index) }
+        ensures rise { steps.new ≤ steps.old + point_cost (probed self.old) }
+        ensures kept { steps.old ≤ steps.new }
+    {
+        Ok(!self.execute_is_valid(alloc, index, steps)?)
     }
 }

@@ -11,7 +11,8 @@ use Rattle.vx_rows.specs.declared.value.Value.{Value}
 use Rattle.vx_rows.specs.declared.error.ColumnError.{ColumnError}
 use Rattle.vx_rows.specs.declared.error.ColumnError.TheVariants.{OutOfMemory, Malformed}
 use Rattle.vx_rows.specs.declared.error.Rule.TheVariants.{RowType, TooLong, ChunkType}
-use Rattle.vx_chunks.specs.Bounds.{search_bound, total}
+use Rattle.vx_search.specs.Places.{search_bound}
+use Rattle.vx_chunks.specs.Bounds.{total}
 use Rattle.vx_column.specs.Columns.{Rows, joined, greatest, rows_of, len_of, IsOf, IsSound, point_cost, lane_cost, is_plain, all_true, ChunksCause}
 use Rattle.vx_column.specs.declared.column.Chunked.{Chunked}
 use Rattle.vx_column.specs.declared.column.Column.{Column}

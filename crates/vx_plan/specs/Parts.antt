@@ -7,7 +7,8 @@ use Rattle.vx_rows.specs.declared.error.ColumnError.{ColumnError}
 use Rattle.vx_rows.specs.declared.error.ColumnError.TheVariants.{OutOfMemory, Malformed, UnknownColumn}
 use Rattle.vx_rows.specs.declared.error.Rule.{Rule}
 use Rattle.vx_rows.specs.declared.error.Rule.TheVariants.{RowType, TooLong, ChunkType}
-use Rattle.vx_chunks.specs.Bounds.{search_bound, total}
+use Rattle.vx_search.specs.Places.{search_bound}
+use Rattle.vx_chunks.specs.Bounds.{total}
 use Rattle.vx_base.specs.Column.{Flat, flat}
 use Rattle.vx_column.specs.Columns.{Rows, joined, greatest, rows_of, type_of, IsSound, point_cost, lane_cost, is_plain}
 use Rattle.vx_column.specs.declared.column.Column.{Column}

@@ -185,3 +185,22 @@ fn too_long(rt: HostRuntime) -> Result<(), Fail> {
     assert_eq!(rt; status, Status::NotAJob);
     Ok(())
 }
+
+#[test]
+fn statuses_have_numbers(rt: HostRuntime) -> Result<(), Fail> {
+    let numbers = [
+        (Status::Ok, 0),
+        (Status::Refused, 1),
+        (Status::Usage, 2),
+        (Status::NotAJob, 3),
+        (Status::ReadFault, 4),
+        (Status::WriteFault, 5),
+        (Status::OutOfMemory, 6),
+        (Status::TooLong, 7),
+    ];
+    for (status, number) in numbers {
+        assert_eq!(rt; status.code(), number);
+    }
+    assert_eq!(rt; Status::NotAJob.name(), "not a job");
+    Ok(())
+}

@@ -2,6 +2,8 @@
 #![tactic(auto)]
 
 #[cfg(test)]
+mod chunks;
+#[cfg(test)]
 mod columns;
 #[cfg(test)]
 mod jobs;
@@ -9,3 +11,5 @@ mod jobs;
 mod parts;
 #[cfg(test)]
 mod plans;
+#[cfg(test)]
+mod rows;

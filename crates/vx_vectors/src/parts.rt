@@ -1,10 +1,15 @@
 //! Parts and rows that the tests are made of.
+ghost use Rattle.std.specs.Prelude.{IsTrue};
+ghost use Rattle.vx_base.specs.Numbers.{is_integer};
+
 use std::alloc::Global;
 use vx_base::{DType, FlatColumn, Nullability, PType, Res, Row, Seq, Value};
 use vx_plan::Part;
 
 /// The type of the tests' numbers.
-pub(crate) fn i32s() -> DType {
+pub(crate) fn i32s() -> DType
+    ensures { IsTrue (is_integer result) }
+{
     DType::Primitive(PType::I32, Nullability::NonNullable)
 }
 

@@ -1,7 +1,9 @@
-use Rattle.std.proofs.Common.{arith, ap, sym, inr, ◌∙◌, ◌≡◌, ◌+◌, take, ◌∷◌, [], ◌++◌}
+use Rattle.std.proofs.Common.{arith, ap, sym, inr, ◌∙◌, ◌≡◌, ◌+◌, take, map, ◌∷◌, [], ◌++◌}
 use Rattle.std.proofs.lemmas.List.{take_all}
 use Rattle.vx_rows.specs.declared.error.ColumnError.TheVariants.{Malformed}
 use Rattle.vx_rows.specs.declared.error.Rule.TheVariants.{TooLong}
+use Rattle.vx_base.specs.Column.{flat}
+use Rattle.vx_chunks.specs.Offsets.{offset_type, offset_row}
 use Rattle.vx_chunks.specs.Bounds.{total, running, gaps}
 use Rattle.vx_chunks.proofs.Sums.{running_more, total-take_more, total-take_le, gaps-running}
 use Rattle.vx_chunks.proofs.boundaries.Boundaries.from_lengths.Goals as goal
@@ -27,7 +29,11 @@ loop-len-preserved c =
 pub invariant_of-result : goal.invariant_of-result
 invariant_of-result c =
     let kept = ap (λ v. v.items) c.in_ok-ends.ensures ∙ c.loop-len.invariant.sums in
-    kept ∙ ap (running 0) (sym (ap gaps kept ∙ gaps-running 0 _))
+    let lens = take c.loop-len.len-index c.args.lens.now in
+    let found : gaps c.in_ok-ends.ends.items ≡ lens = ap gaps kept ∙ gaps-running 0 lens in (
+      kept ∙ ap (running 0) (sym found),
+      c.in_ok-offsets.ensures.ok ∙ ap (λ ks. flat offset_type (map offset_row ks)) (c.as_slice.ensures.value ∙ c.loop-len.invariant.sums ∙ ap (running 0) (sym found)),
+    )
 
 pub returns-clause-ok : goal.returns-clause-ok
 returns-clause-ok c = ap gaps (ap (λ v. v.items) c.in_ok-ends.ensures ∙ c.loop-len.invariant.sums) ∙ gaps-running 0 _ ∙ take_all _ _ (omega arith)

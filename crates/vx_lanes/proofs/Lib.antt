@@ -1,0 +1,7 @@
+pub mod Entries
+pub mod Exceptions
+pub mod Firsts
+pub mod Typed
+pub mod Overlays
+pub mod Slices
+pub mod Sound

@@ -1,0 +1,42 @@
+//! What a patched array says of itself.
+use crate::{PatchedData, PatchedSlots};
+use std::hash::{DefaultHasher, Hash, Hasher};
+use std::test::Fail;
+
+fn hash_of(data: &PatchedData) -> u64 {
+    let mut state = DefaultHasher::new();
+    data.hash(&mut state);
+    state.finish()
+}
+
+fn data(offset: usize) -> PatchedData {
+    PatchedData {
+        n_lanes: 32,
+        offset,
+    }
+}
+
+#[test]
+fn prints(rt: HostRuntime) -> Result<(), Fail> {
+    let data = data(5);
+    let text = format!(in rt.alloc(); "{data}")?;
+    assert_eq!(rt; text.as_str(), "n_lanes: 32, offset: 5");
+    Ok(())
+}
+
+#[test]
+fn compares_both_fields(rt: HostRuntime) -> Result<(), Fail> {
+    let same = data(5).clone()?;
+    assert!(rt; same == data(5) && same != data(6));
+    assert_eq!(rt; hash_of(&same), hash_of(&data(5)));
+    Ok(())
+}
+
+#[test]
+fn numbers_its_slots(rt: HostRuntime) -> Result<(), Fail> {
+    let below = (PatchedSlots::INNER, PatchedSlots::LANE_OFFSETS);
+    assert_eq!(rt; below, (0, 1));
+    let exceptions = (PatchedSlots::PATCH_INDICES, PatchedSlots::PATCH_VALUES);
+    assert_eq!(rt; exceptions, (2, 3));
+    Ok(())
+}

@@ -1,0 +1,9 @@
+pub mod Counts
+pub mod Chunks
+pub mod Insides
+pub mod Making
+pub mod Searches
+pub mod Slices
+pub mod Chains
+pub mod Pairs
+pub mod Overlays

@@ -1,0 +1,81 @@
+-- The rules of exceptions, in their order.
+use Rattle.std.specs.Prelude.{ℕ, ◌+◌, ◌/◌, ◌%◌, ◌≡◌, Bool, not, cond, nat_le, nat_eq, List, [], ◌∷◌, ◌++◌, length, Option, Some, None}
+use Rattle.vx_rows.specs.declared.error.ColumnError.{ColumnError}
+use Rattle.vx_rows.specs.declared.error.ColumnError.TheVariants.{Malformed}
+use Rattle.vx_rows.specs.declared.error.Rule.{Rule}
+use Rattle.vx_rows.specs.declared.error.Rule.TheVariants.{TooLong, NoExceptions, IndexType, IndexOrder, IndexBelowOffset, IndexPastEnd, ValueCount, ChunkOffsetType, ChunkOffsetCount, ChunkOffsetWrong}
+use Rattle.vx_base.specs.Column.{Flat}
+use Rattle.vx_base.specs.Numbers.{numbers_of, is_unsigned}
+use Rattle.vx_base.specs.Checks.{strictly_increasing, all_within, counts_below}
+use Rattle.vx_patches.specs.Places.{Index, chunks_over}
+
+-- ---- each rule: true where it is broken
+
+-- offset and length together need more than 64 bits
+abbrev pub too_long : ℕ → ℕ → Bool
+too_long len offset = nat_le 18446744073709551616 (offset + len)
+
+abbrev pub no_exceptions : Flat → Bool
+no_exceptions indices = nat_eq (length indices.rows) 0
+
+-- not of an unsigned type without nothings
+abbrev pub wrong_type : Flat → Bool
+wrong_type column = not (is_unsigned column.dtype)
+
+-- the indices don't rise strictly
+abbrev pub out_of_order : Flat → Bool
+out_of_order indices = not (strictly_increasing (numbers_of indices.rows))
+
+-- some index is below the offset
+abbrev pub below_offset : ℕ → Flat → Bool
+below_offset offset indices = not (all_within offset None (numbers_of indices.rows))
+
+-- some index isn't below the end
+abbrev pub past_end : ℕ → Flat → Bool
+past_end end indices = not (all_within 0 (Some end) (numbers_of indices.rows))
+
+-- values and indices differ in number
+abbrev pub differ_in_number : Flat → Flat → Bool
+differ_in_number values indices = not (nat_eq (length values.rows) (length indices.rows))
+
+-- there isn't one chunk offset for each chunk
+abbrev pub wrong_number : ℕ → ℕ → Flat → Bool
+wrong_number len offset offsets = not (nat_eq (length offsets.rows) (chunks_over (offset % 1024 + len)))
+
+-- some chunk offset isn't the count of the indices before its chunk
+abbrev pub wrong_counts : ℕ → Flat → Flat → Bool
+wrong_counts offset indices offsets = not (counts_below (offset / 1024) (numbers_of offsets.rows) (numbers_of indices.rows))
+
+-- ---- the first one that is broken
+
+abbrev pub first_broken : List (Rule × Bool) → Option Rule
+first_broken [] = None
+first_broken (rule ∷ rules) = cond rule.1 (Some rule.0) (first_broken rules)
+
+abbrev pub index_rules : ℕ → ℕ → Flat → List (Rule × Bool)
+index_rules len offset indices =
+    (TooLong, too_long len offset) ∷ (NoExceptions, no_exceptions indices) ∷ (IndexType, wrong_type indices) ∷ (IndexOrder, out_of_order indices)
+    ∷ (IndexBelowOffset, below_offset offset indices) ∷ (IndexPastEnd, past_end (offset + len) indices) ∷ []
+
+-- no rule where there are no chunk offsets
+abbrev pub chunk_rules : ℕ → ℕ → Flat → Option Flat → List (Rule × Bool)
+chunk_rules len offset indices None = []
+chunk_rules len offset indices (Some offsets) =
+    (ChunkOffsetType, wrong_type offsets) ∷ (ChunkOffsetCount, wrong_number len offset offsets) ∷ (ChunkOffsetWrong, wrong_counts offset indices offsets) ∷ []
+
+-- the first rule that places of exceptions break
+abbrev pub index_fault : ℕ → ℕ → Flat → Option Flat → Option Rule
+index_fault len offset indices offsets = first_broken (index_rules len offset indices ++ chunk_rules len offset indices offsets)
+
+-- the first rule that exceptions break
+abbrev pub patches_fault : ℕ → ℕ → Flat → Flat → Option Flat → Option Rule
+patches_fault len offset indices values offsets =
+    first_broken (index_rules len offset indices ++ ((ValueCount, differ_in_number values indices) ∷ chunk_rules len offset indices offsets))
+
+-- a refusal names that rule, at no part
+abbrev pub Refuses : Option Rule → ColumnError → Type 0
+Refuses None e = ⊥
+Refuses (Some rule) e = e ≡ Malformed [] rule
+
+abbrev pub made : ℕ → ℕ → Flat → Option Flat → Index
+made len offset indices offsets = record { len = len; offset = offset; indices = indices; chunk_offsets = offsets; within = 0 }

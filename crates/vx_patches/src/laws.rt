@@ -1,0 +1,9 @@
+//! Laws of slices, as contracts over the definitions.
+ghost use Rattle.vx_patches.specs.Laws.{PairsCompose, ChainIsOneSlice};
+
+/// A slice of a slice means one slice by the composed range, and is it, chunk offsets and all. So what a chain of slices
+/// answers, and what its searches cost, is what the one slice does.
+pub fn slice_laws()
+    ensures pairs { PairsCompose }
+    ensures chain { ChainIsOneSlice }
+{}

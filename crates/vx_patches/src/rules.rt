@@ -1,0 +1,67 @@
+//! The rules that exceptions keep. Each check answers the first one that is broken.
+ghost use Rattle.std.specs.Prelude.{◌≡◌, ◌<◌, ◌+◌, ◌^◌, length, None, IsTrue};
+ghost use Rattle.vx_base.specs.Numbers as spec;
+ghost use Rattle.vx_patches.specs.Making.{first_broken, index_rules, chunk_rules};
+
+use crate::index::PATCH_CHUNK_SIZE;
+use vx_base::checks::{all_within, counts_below, strictly_increasing};
+use vx_base::{DType, FlatColumn, Nullability, PType, Rule};
+
+/// Whether the type is an unsigned one without nothings.
+fn is_unsigned(dtype: &DType) -> bool
+    ensures { result ≡ spec.is_unsigned dtype.now }
+{
+    matches!(
+        dtype,
+        DType::Primitive(
+            PType::U8 | PType::U16 | PType::U32 | PType::U64,
+            Nullability::NonNullable
+        )
+    )
+}
+
+/// The first rule that the indices break.
+pub(crate) fn index_fault(array_len: usize, offset: usize, indices: &FlatColumn) -> Option<Rule>
+    ensures { result ≡ first_broken (index_rules array_len offset indices.now) }
+{
+    let Some(end) = offset.checked_add(array_len) else {
+        return Some(Rule::TooLong);
+    };
+    if indices.is_empty() {
+        Some(Rule::NoExceptions)
+    } else if !is_unsigned(indices.dtype()) {
+        Some(Rule::IndexType)
+    } else if !strictly_increasing(indices) {
+        Some(Rule::IndexOrder)
+    } else if !all_within(indices, offset, None) {
+        Some(Rule::IndexBelowOffset)
+    } else if !all_within(indices, 0, Some(end)) {
+        Some(Rule::IndexPastEnd)
+    } else {
+        None
+    }
+}
+
+/// The first rule that the chunk offsets break, for indices that break none.
+pub(crate) fn chunk_fault(
+    array_len: usize,
+    offset: usize,
+    indices: &FlatColumn,
+    chunk_offsets: &Option<FlatColumn>,
+) -> Option<Rule>
+    requires short { offset + array_len < 2 ^ 64 }
+    requires unsigned { IsTrue (spec.is_unsigned indices.now.dtype) }
+    ensures { result ≡ first_broken (chunk_rules array_len offset indices.now chunk_offsets.now) }
+{
+    let offsets = chunk_offsets.as_ref()?;
+    let chunks = (offset % PATCH_CHUNK_SIZE + array_len).div_ceil(PATCH_CHUNK_SIZE);
+    if !is_unsigned(offsets.dtype()) {
+        Some(Rule::ChunkOffsetType)
+    } else if offsets.len() != chunks {
+        Some(Rule::ChunkOffsetCount)
+    } else if !counts_below(offsets, indices, offset / PATCH_CHUNK_SIZE) {
+        Some(Rule::ChunkOffsetWrong)
+    } else {
+        None
+    }
+}

@@ -1,0 +1,66 @@
+use Rattle.std.proofs.Common.{arith, subst, sym, ap, ◌≡◌, ◌∙◌, ℕ, ◌+◌, ◌-◌, ◌≤◌, inr, IfOk}
+use Rattle.std.proofs.lemmas.Result.{err_from_is_err_and}
+use Rattle.vx_search.specs.Places.{index_of, search_bound}
+use Rattle.vx_search.specs.Halving.{IsWhere}
+use Rattle.vx_search.specs.declared.result.SearchResult.TheVariants.{Found}
+use Rattle.vx_search.proofs.Powers.{first_by, second_by}
+use Rattle.vx_search.proofs.Borders.{at_border, border_ascends, inside_left, inside_right}
+use Rattle.vx_search.proofs.Calls.{answers_upto}
+use Rattle.vx_search.proofs.by.search_both_by.Goals as goal
+use Rattle.vx_search.proofs.by.search_both_by.Goals.{in-Left+in_ok-edge-in-Left, in-Right+in_ok-edge-in-Right}
+
+pub returns-in_err-place-clause-rise : goal.returns-in_err-place-clause-rise
+returns-in_err-place-clause-rise g c = first_by c.args.steps.now c.halve_by.new.steps c.args.len c.halve_by.ensures.rise
+
+pub returns-in-NotFound-clause-rise : goal.returns-in-NotFound-clause-rise
+returns-in-NotFound-clause-rise g c = first_by c.args.steps.now c.halve_by.new.steps c.args.len c.halve_by.ensures.rise
+
+pub halve_by-requires-in-Left-clause-callable : goal.halve_by-requires-in-Left-clause-callable
+halve_by-requires-in-Left-clause-callable g c =
+    let top : c.in-Found.found ≤ c.args.len = (subst (λ p. (0 ≤ index_of p) × (index_of p ≤ c.args.len)) c.in-Found.is c.in_ok-place.ensures.within).1 in
+    answers_upto g.N.FnMut c.args.len (λ _ _. Unit {0}) c.in-Found.found top c.args.side_find c.requires.side_find
+
+pub halve_by-requires-in-Right-clause-ordered : goal.halve_by-requires-in-Right-clause-ordered
+halve_by-requires-in-Right-clause-ordered g c = (subst (λ p. (0 ≤ index_of p) × (index_of p ≤ c.args.len)) c.in-Found.is c.in_ok-place.ensures.within).1
+
+pub returns-in_err-edge-in-Left-clause-err : goal.returns-in_err-edge-in-Left-clause-err
+returns-in_err-edge-in-Left-clause-err g c =
+    let top : c.in-Found.found ≤ c.args.len = (subst (λ p. (0 ≤ index_of p) × (index_of p ≤ c.args.len)) c.in-Found.is c.in_ok-place.ensures.within).1 in
+    let w = c.in_err-edge-in-Left.ensures.err in
+    let p = err_from_is_err_and c.from_residual-in_err-edge-in-Left.result c.from_residual-in_err-edge-in-Left.ensures.1 in
+    rw (p.1, p.2) (inr (w.0, w.1, w.2, omega (arith, w.3, top), w.4))
+
+pub returns-in_err-edge-in-Left-clause-rise : goal.returns-in_err-edge-in-Left-clause-rise
+returns-in_err-edge-in-Left-clause-rise g c =
+    let top : c.in-Found.found ≤ c.args.len = (subst (λ p. (0 ≤ index_of p) × (index_of p ≤ c.args.len)) c.in-Found.is c.in_ok-place.ensures.within).1 in
+    second_by c.args.steps.now c.halve_by.new.steps c.halve_by-in-Left.new.steps c.args.len (c.in-Found.found - 0) (omega (arith, top)) c.halve_by.ensures.rise c.halve_by-in-Left.ensures.rise
+
+pub returns-in_err-edge-in-Right-clause-rise : goal.returns-in_err-edge-in-Right-clause-rise
+returns-in_err-edge-in-Right-clause-rise g c =
+    second_by c.args.steps.now c.halve_by.new.steps c.halve_by-in-Right.new.steps c.args.len (c.args.len - c.in-Found.found) (omega arith) c.halve_by.ensures.rise c.halve_by-in-Right.ensures.rise
+
+pub returns-clause-rise : goal.returns-clause-rise
+returns-clause-rise g c =
+    let top : c.in-Found.found ≤ c.args.len = (subst (λ p. (0 ≤ index_of p) × (index_of p ≤ c.args.len)) c.in-Found.is c.in_ok-place.ensures.within).1 in
+    let P : ℕ → Type 0 = λ s. s ≤ c.args.steps.now + search_bound c.args.len in
+    elim c.match-side.branch [
+      | in-Left+in_ok-edge-in-Left w ↦ subst P (sym w.steps-is) (second_by c.args.steps.now c.halve_by.new.steps w.halve_by-in-Left.new.steps c.args.len (c.in-Found.found - 0) (omega (arith, top)) c.halve_by.ensures.rise w.halve_by-in-Left.ensures.rise)
+      | in-Right+in_ok-edge-in-Right w ↦ subst P (sym w.steps-is) (second_by c.args.steps.now c.halve_by.new.steps w.halve_by-in-Right.new.steps c.args.len (c.args.len - c.in-Found.found) (omega arith) c.halve_by.ensures.rise w.halve_by-in-Right.ensures.rise)
+    ]
+
+pub returns-clause-ok : goal.returns-clause-ok
+returns-clause-ok g c = λ f s border find side_find up edges side.
+    let here : IsWhere f 0 c.args.len (Found c.in-Found.found) = subst (IsWhere f 0 c.args.len) c.in-Found.is (c.in_ok-place.ensures.ok f find up) in
+    elim c.match-side.branch [
+      | in-Left+in_ok-edge-in-Left w ↦
+          let edge : IsWhere s 0 c.in-Found.found w.in_ok-edge-in-Left.edge =
+          w.in_ok-edge-in-Left.ensures.ok s (answers_upto g.N.FnMut c.args.len (λ k r. IfOk r (λ o. o ≡ s k)) c.in-Found.found (omega (arith, here.1)) c.args.side_find side_find)
+          (border_ascends s c.args.len border edges c.in-Found.found (omega (arith, here.1))) in
+          let below : border ≤ c.in-Found.found = inside_left f c.args.len border c.in-Found.found c.args.side w.in-Left.is side here in
+          (c.to_index.ensures ∙ ap index_of w.edge-is ∙ at_border s c.args.len border 0 c.in-Found.found w.in_ok-edge-in-Left.edge edges (omega arith) below (omega (arith, here.1)) edge, (c.in-Found.found, here.1, here.2))
+      | in-Right+in_ok-edge-in-Right w ↦
+          let edge : IsWhere s c.in-Found.found c.args.len w.in_ok-edge-in-Right.edge =
+          w.in_ok-edge-in-Right.ensures.ok s side_find (border_ascends s c.args.len border edges c.args.len (omega arith)) in
+          let above : c.in-Found.found ≤ border = inside_right f c.args.len border c.in-Found.found c.args.side w.in-Right.is side here in
+          (c.to_index.ensures ∙ ap index_of w.edge-is ∙ at_border s c.args.len border c.in-Found.found c.args.len w.in_ok-edge-in-Right.edge edges above edges.within (omega arith) edge, (c.in-Found.found, here.1, here.2))
+    ]

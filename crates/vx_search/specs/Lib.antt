@@ -1,0 +1,6 @@
+pub mod Answers
+pub mod Closures
+pub mod Halving
+pub mod Numbers
+pub mod Places
+pub mod Texts

@@ -1,0 +1,29 @@
+//! Searches through the calls that users make, with answers from outside.
+ghost use Rattle.std.specs.Prelude.{◌≡◌, IfOk};
+ghost use Rattle.std.specs.List.Sorted.{IsNonDecreasingBy};
+ghost use Rattle.std.specs.Ordering.{ordering_index};
+ghost use Rattle.vx_search.specs.Answers.{standing};
+ghost use Rattle.vx_search.specs.Places.{place};
+
+mod closures;
+mod columns;
+mod gallops;
+mod integers;
+mod results;
+mod slices;
+
+use crate::{SearchResult, SearchSorted, SearchSortedSide};
+use vx_base::{Ledger, Res, Steps};
+
+/// The place of a value, through the bound.
+fn place_of<S: SearchSorted<V> + Drop, V, L: Ledger>(
+    mut seq: S,
+    value: &V,
+    side: SearchSortedSide,
+    steps: &mut Steps<L>,
+) -> Res<SearchResult>
+    requires { IsNonDecreasingBy (λ x. ordering_index (S.stands x value.now)) (S.sequence seq) }
+    ensures { IfOk result (λ p. p ≡ place side (standing S.stands (S.sequence seq) value.now)) }
+{
+    seq.search_sorted(value, side, steps)
+}

@@ -1,0 +1,4 @@
+mod VarintLemmas
+mod FieldLemmas
+mod OneReading
+mod RoundTrip
