@@ -1,0 +1,7 @@
+//! Tests of searches at further types.
+#![tactic(auto)]
+
+#[cfg(test)]
+mod closures;
+#[cfg(test)]
+mod columns;
