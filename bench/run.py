@@ -24,7 +24,10 @@ DEEP_LEVELS = 60  # of parts in parts; JSON may be nested 127 deep, and each par
 NAMED_ROWS = 1000  # in the reads of the shapes "wide" and "deep"
 PLAN_CHUNKS = 65
 PLAN_STEPS = 1000
+SHAPES = ("chunks", "wide", "deep", "flat", "plan", "exceptions", "woven", "texts", "whole page")
 LAST_ROWS = 100  # what the plan of a small page leaves
+CHUNK = 1024  # rows for which there is one chunk offset
+EVERY = 10  # one row of so many has an exception in the shape "exceptions"
 
 
 def rows_of(rng, size):
@@ -41,6 +44,30 @@ def rows_of(rng, size):
 
 def flat(rows):
     return '{"flat":"i64","rows":[' + ",".join(rows) + "]}"
+
+
+def whole_numbers(kind, numbers):
+    return f'{{"flat":"{kind}","rows":[' + ",".join(map(str, numbers)) + "]}"
+
+
+def excepted(rows):
+    """Returns a part with chunk offsets in which each row of so many is an exception over another, and its rows."""
+    base = [row if at % EVERY else "0" for at, row in enumerate(rows)]
+    offsets = [-(-CHUNK * chunk // EVERY) for chunk in range(-(-len(rows) // CHUNK))]
+    return (
+        f'{{"excepted":{flat(base)},"offset":0,"indices":{whole_numbers("u32", range(0, len(rows), EVERY))},'
+        f'"values":{flat(rows[::EVERY])},"chunk_offsets":{whole_numbers("u32", offsets)}}}'
+    )
+
+
+def woven(rows):
+    """Returns a part that takes its rows from two in turn."""
+    arrays = (at % 2 for at in range(len(rows)))
+    places = (at // 2 for at in range(len(rows)))
+    return (
+        f'{{"interleaved":[{flat(rows[::2])},{flat(rows[1::2])}],"array_indices":{whole_numbers("u8", arrays)},'
+        f'"row_indices":{whole_numbers("u32", places)}}}'
+    )
 
 
 def chunked(rows, length):
@@ -109,8 +136,14 @@ def make(shape, size, seed, job, page):
         room -= room // 300  # for the text around the chunks
     elif shape == "wide":
         room -= 25 * min(WIDE_CHUNKS, size // WIDE_BYTES) + 30_000
-    elif shape == "deep":
+    elif shape in ("deep", "exceptions"):
         room -= 40_000
+    if shape == "exceptions":
+        room = room * 5 // 6  # for the indices of exceptions
+    elif shape == "woven":
+        room = room * 11 // 21  # for the selectors
+    elif shape == "texts":
+        room = room * 11 // 15  # for quotes and escapes
     rows = rows_of(rng, room)
     if shape == "chunks":
         part, (plan, answers, left) = chunked(rows, CHUNK_ROWS), middle(rows)
@@ -121,6 +154,13 @@ def make(shape, size, seed, job, page):
         part, (plan, answers, left) = chunked(rows, length), scattered(rng, rows)
     elif shape == "deep":
         part, (plan, answers, left) = nested(rows, DEEP_LEVELS), scattered(rng, rows)
+    elif shape == "exceptions":
+        part, (plan, answers, left) = excepted(rows), scattered(rng, rows)
+    elif shape == "woven":
+        part, (plan, answers, left) = woven(rows), scattered(rng, rows)
+    elif shape == "texts":
+        rows = [f'"{row}\\n"' for row in rows]
+        part, (plan, answers, left) = '{"flat":"utf8","rows":[' + ",".join(rows) + "]}", scattered(rng, rows)
     elif shape == "whole page":
         part, plan, answers, left = flat(rows), [], [], rows
     else:
@@ -130,7 +170,7 @@ def make(shape, size, seed, job, page):
         sys.exit(f"bench: the job {shape} has {len(text)} bytes, above {size}")
     pathlib.Path(job).write_text(text, encoding="ascii")
     told = ",".join(f'{{"rows":[{",".join(answer)}]}}' for answer in answers)
-    right = f'{{"answers":[{told}],"rows":[{",".join(left)}],"type":"i64"}}\n'
+    right = f'{{"answers":[{told}],"rows":[{",".join(left)}],"type":"{"utf8" if shape == "texts" else "i64"}"}}\n'
     pathlib.Path(page).write_text(right, encoding="ascii")
 
 
@@ -195,7 +235,7 @@ def main():
     print(f"cores: {os.cpu_count()}, seed: {given.seed}, fastest of {given.runs} runs", flush=True)
     is_good = True
     with tempfile.TemporaryDirectory(prefix="vxcol-bench-") as folder:
-        for shape in ("chunks", "wide", "deep", "flat", "plan", "whole page"):
+        for shape in SHAPES:
             times = {size: measure(program, folder, shape, size, given.seed, given.runs) for size in sizes}
             is_good = is_good and None not in times.values()
             if times.get(10) and times.get(60):

@@ -1,5 +1,5 @@
 -- Boundaries of chunks.
-use Rattle.std.specs.Prelude.{ℕ, ◌+◌, ◌-◌, List, [], ◌∷◌, cond, ◌==◌}
+use Rattle.std.specs.Prelude.{ℕ, ◌+◌, ◌-◌, List, [], ◌∷◌}
 
 -- the sum of a list
 abbrev pub total : List ℕ → ℕ
@@ -20,7 +20,3 @@ gaps_from a (b ∷ bs) = (b - a) ∷ gaps_from b bs
 abbrev pub gaps : List ℕ → List ℕ
 gaps [] = []
 gaps (b ∷ bs) = gaps_from b bs
-
--- how many ends of a slice are cut: one where it does not begin at the front, and one where it does not reach the end
-abbrev pub ends_cut : ℕ → ℕ → ℕ → ℕ
-ends_cut start end len = cond (start == 0) 0 1 + cond (end == len) 0 1

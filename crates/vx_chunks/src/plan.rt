@@ -1,7 +1,8 @@
 //! Which pieces of which chunks a range of rows is.
 ghost use Rattle.std.specs.Prelude.{◌≡◌, ◌+◌, ◌*◌, ◌<◌, ◌≤◌, length, take, slice_index, cond, ◌==◌};
 ghost use Rattle.vx_search.specs.Places.{search_bound};
-ghost use Rattle.vx_chunks.specs.Bounds.{total, ends_cut};
+ghost use Rattle.vx_base.specs.Ranges.{ends_cut};
+ghost use Rattle.vx_chunks.specs.Bounds.{total};
 ghost use Rattle.vx_chunks.specs.Plans.{IsPlanOf};
 
 use crate::boundaries::Boundaries;

@@ -1,7 +1,7 @@
 -- Cuts of chunks.
 use Rattle.std.proofs.lemmas.Bool.{and_parts, and_from}
 use Rattle.std.proofs.lemmas.Bool.Decides.{nat_tests}
-use Rattle.std.proofs.Common.{inl, inr, ◌^◌, Bool, true, false, cond, nat_eq, None, ◌≡◌, ℕ, zero, suc, ◌+◌, ◌-◌, ◌*◌, ◌≤◌, ◌<◌, List, [], ◌∷◌, ◌++◌, take, drop, length, map, get_or, max, refl, sym, ◌∙◌, ap, subst, arith, append_assoc, append-nil, length-append}
+use Rattle.std.proofs.Common.{inl, inr, ◌^◌, Bool, true, false, cond, nat_eq, None, Option, Some, ◌≡◌, ℕ, zero, suc, ◌+◌, ◌-◌, ◌*◌, ◌≤◌, ◌<◌, List, [], ◌∷◌, ◌++◌, take, drop, length, map, get_or, max, refl, sym, ◌∙◌, ap, subst, arith, append_assoc, append-nil, length-append}
 use denote.Param.Weighed.{most, at_most}
 use Rattle.vx_column.proofs.column.Column.TheLaws.{the_size}
 use Rattle.std.proofs.lemmas.List.{take-map, length-map, length-take-le, length-take, get_or-map, get_or-drop, length-drop, take_at, take-take, take_more, take-append-drop, map-append}
@@ -10,7 +10,11 @@ use Rattle.std.proofs.Math.Nat.{mul-le-mul, mul-le-mul_left, le_refl}
 use Rattle.std.specs.List.{All, AllByRecursion}
 use Rattle.std.proofs.lemmas.List.Elements.{All-from_recursion, recursion_from_All, All-take}
 use Rattle.vx_search.specs.Places.{search_bound}
-use Rattle.vx_chunks.specs.Bounds.{total, ends_cut}
+use Rattle.vx_base.specs.Ranges.{ends_cut}
+use Rattle.vx_chunks.specs.Bounds.{total}
+use Rattle.vx_patches.specs.Places.{Index, indices_of}
+use Rattle.vx_patches.specs.Search.{search_cost, offset_reads, comparisons}
+use Rattle.vx_patches.specs.Slices.{front_reads, cut_cost as places_cut_cost}
 use Rattle.vx_chunks.specs.Plans.{IsSpan, IsFull}
 use Rattle.vx_chunks.specs.Causes.{SumCause}
 use Rattle.vx_rows.specs.declared.error.ColumnError.{ColumnError}
@@ -20,13 +24,16 @@ use Rattle.vx_base.specs.Column.{Flat, flat}
 use Rattle.vx_rows.specs.declared.dtype.DType.{DType}
 use Rattle.vx_column.specs.Columns.{Rows, type_of, joined, greatest, rows_of, len_of, point_cost, cut_cost, lane_cost, is_plain, all_true, select_bound, IsSound, IsSliceOf, IsWhole, last_piece}
 use Rattle.vx_column.specs.declared.column.Chunked.{Chunked}
+use Rattle.vx_column.specs.declared.patched.Patched.{Patched}
+use Rattle.vx_column.specs.declared.excepted.Excepted.{Excepted}
+use Rattle.vx_column.specs.declared.interleave.Interleave.{Interleave}
 use Rattle.vx_column.specs.declared.column.Column.{Column}
 use Rattle.vx_column.specs.declared.column.Column.TheVariants as column
-use Rattle.vx_column.specs.declared.column.Column.TheVariants.{rolls-Flat, rolls-Chunked}
+use Rattle.vx_column.specs.declared.column.Column.TheVariants.{rolls-Flat, rolls-Chunked, rolls-Patched, rolls-Excepted, rolls-Interleave}
 use Rattle.vx_column.specs.declared.column.Column.TheOpen.{Column-F}
 use Rattle.vx_column.specs.declared.column.Column.TheViews.{roll-Column}
 use Rattle.vx_column.specs.declared.column.Column.TheFolds.{ind-Column, map-Column}
-use Rattle.vx_column.proofs.Layers.{type_chunked, type_flat, rows_chunked, point_chunked, cut_chunked, total_joined, sound_flat, point_least, rows_flat, point_flat, cut_flat, lane_flat, lane_chunked, plain_flat, plain_chunked}
+use Rattle.vx_column.proofs.Layers.{type_chunked, type_flat, rows_chunked, point_chunked, cut_chunked, total_joined, sound_flat, point_least, rows_flat, point_flat, cut_flat, lane_flat, lane_chunked, plain_flat, plain_chunked, point_patched, cut_patched, point_excepted, cut_excepted, cut_interleave}
 use Rattle.vx_column.proofs.Lists.{sublist_inside, sublist_across, sublist_front, sublist_rest, sublist_whole, sublist_none, split_at, ends_cut_within, ends_cut_across, greatest-append}
 
 -- the rows of columns, joined
@@ -457,6 +464,14 @@ select_least x n = omega (arith, mul-le-mul_left (8 * n) (point_least x))
 pub rows_seen : (self : Column) (c : Chunked Column) (xs : List Column) → self ≡ column.Chunked c → xs ≡ c.chunks → rows_in xs ≡ rows_of self
 rows_seen self c xs is same = ap rows_in same ∙ sym (rows_chunked c) ∙ ap rows_of (sym is)
 
+-- to cut places costs at most two searches
+places_cheap : (index : Index) → places_cut_cost index ≤ 2 * search_cost index
+places_cheap index = by_offsets index.chunk_offsets (length (indices_of index))
+  where
+    by_offsets : (offsets : Option Flat) (m : ℕ) → offset_reads offsets + comparisons offsets m + front_reads offsets ≤ 2 * (offset_reads offsets + comparisons offsets m)
+    by_offsets None m = omega arith
+    by_offsets (Some offsets) m = omega arith
+
 -- a cut costs at most two reads
 abbrev IsCheap : Column → Type 0
 IsCheap x = cut_cost x ≤ 2 * point_cost x
@@ -470,6 +485,15 @@ cheap_layer (Column-F.Flat rows) = subst IsCheap (sym (rolls-Flat rows)) (omega 
 cheap_layer (Column-F.Chunked c) =
     let whole : Chunked Column = record { dtype = c.dtype; boundaries = c.boundaries; chunks = map (λ e. e.0) c.chunks } in
     subst IsCheap (sym (rolls-Chunked whole)) (omega (arith, cut_cost_is whole, point_cost_is whole, cheap_all c.chunks))
+cheap_layer (Column-F.Patched p) =
+    let whole : Patched Column = record { inner = p.inner.0; lanes = p.lanes } in
+    subst IsCheap (sym (rolls-Patched whole)) (omega (arith, cut_patched whole, point_patched whole, p.inner.1))
+cheap_layer (Column-F.Excepted x) =
+    let whole : Excepted Column = record { base = x.base.0; index = x.index; values = x.values.0 } in
+    subst IsCheap (sym (rolls-Excepted whole)) (omega (arith, cut_excepted whole, point_excepted whole, places_cheap x.index, x.base.1, x.values.1))
+cheap_layer (Column-F.Interleave i) =
+    let whole : Interleave Column = record { dtype = i.dtype; selectors = i.selectors; values = map (λ e. e.0) i.values } in
+    subst IsCheap (sym (rolls-Interleave whole)) (omega (arith, cut_interleave whole))
 
 pub cut_at_most_twice : (x : Column) → cut_cost x ≤ 2 * point_cost x
 cut_at_most_twice = ind-Column IsCheap (λ x y e. subst (λ l. IsCheap (roll-Column l)) e (cheap_layer y))

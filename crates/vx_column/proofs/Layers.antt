@@ -1,20 +1,27 @@
 -- One layer of a column.
-use Rattle.std.proofs.Common.{Bool, true, ◌≡◌, ℕ, ◌+◌, ◌≤◌, List, [], ◌∷◌, map, length, refl, sym, ◌∙◌, ap, subst, arith, length-append}
+use Rattle.std.proofs.Common.{Bool, true, ◌&&◌, ◌≡◌, ℕ, ◌+◌, ◌≤◌, List, [], ◌∷◌, map, length, refl, sym, ◌∙◌, ap, subst, arith, length-append}
 use Rattle.std.specs.List.{All, AllByRecursion}
 use Rattle.std.proofs.lemmas.List.Elements.{All-from_recursion, recursion_from_All}
 use Rattle.vx_search.specs.Places.{search_bound}
 use Rattle.vx_chunks.specs.Bounds.{total}
+use Rattle.vx_patches.specs.Search.{search_cost}
+use Rattle.vx_patches.specs.Slices.{cut_cost as places_cut_cost}
+use Rattle.vx_lanes.specs.Layouts.{overlaid}
+use Rattle.vx_interleave.specs.Selections.{pairs_of}
 use Rattle.vx_search.proofs.Powers.{search_bound_positive}
 use Rattle.vx_base.specs.Column.{Flat}
 use Rattle.vx_rows.specs.declared.dtype.DType.{DType}
-use Rattle.vx_column.specs.Columns.{Rows, type_of, type_step, IsOf, lane_cost, lane_step, is_plain, plain_step, all_true, rows_of, rows_step, joined, point_cost, point_step, cut_cost, cut_step, greatest, len_of, IsSound, IsSoundLayer}
+use Rattle.vx_column.specs.Columns.{Rows, type_of, type_step, IsOf, lane_cost, lane_step, lane_reads, lane_entries, is_plain, plain_step, all_true, rows_of, rows_step, joined, excepted, woven, point_cost, point_step, cut_cost, cut_step, greatest, len_of, AreLanes, AreExceptions, AreWoven, IsSound, IsSoundLayer}
 use Rattle.vx_column.specs.declared.column.Chunked.{Chunked}
+use Rattle.vx_column.specs.declared.patched.Patched.{Patched}
+use Rattle.vx_column.specs.declared.excepted.Excepted.{Excepted}
+use Rattle.vx_column.specs.declared.interleave.Interleave.{Interleave}
 use Rattle.vx_column.specs.declared.column.Column.{Column}
 use Rattle.vx_column.specs.declared.column.Column.TheOpen.{Column-F}
-use Rattle.vx_column.specs.declared.column.Column.TheVariants.{rolls-Chunked, outs-Chunked, rolls-Flat, outs-Flat}
+use Rattle.vx_column.specs.declared.column.Column.TheVariants.{rolls-Flat, rolls-Chunked, rolls-Patched, rolls-Excepted, rolls-Interleave, outs-Chunked, outs-Patched, outs-Excepted, outs-Interleave}
 use Rattle.vx_column.specs.declared.column.Column.TheVariants as column
 use Rattle.vx_column.specs.declared.column.Column.TheViews.{out-Column, roll-Column, roll-out-Column}
-use Rattle.vx_column.specs.declared.column.Column.TheFolds.{every_held-Column, every_here-Column, every_made-Column, fold-roll-Column, map-Column}
+use Rattle.vx_column.specs.declared.column.Column.TheFolds.{every_held-Column, every_here-Column, every_made-Column, fold-roll-Column, ind-Column, map-Column}
 
 pub rows_chunked : (c : Chunked Column) → rows_of (column.Chunked c) ≡ joined (map rows_of c.chunks)
 rows_chunked c = ap rows_of (sym (rolls-Chunked c)) ∙ fold-roll-Column Rows rows_step (Column-F.Chunked c)
@@ -52,6 +59,60 @@ point_flat rows = ap point_cost (sym (rolls-Flat rows)) ∙ fold-roll-Column ℕ
 pub cut_flat : (rows : Flat) → cut_cost (column.Flat rows) ≡ 0
 cut_flat rows = ap cut_cost (sym (rolls-Flat rows)) ∙ fold-roll-Column ℕ cut_step (Column-F.Flat rows)
 
+pub rows_patched : (p : Patched Column) → rows_of (column.Patched p) ≡ overlaid p.lanes (rows_of p.inner)
+rows_patched p = ap rows_of (sym (rolls-Patched p)) ∙ fold-roll-Column Rows rows_step (Column-F.Patched p)
+
+pub type_patched : (p : Patched Column) → type_of (column.Patched p) ≡ type_of p.inner
+type_patched p = ap type_of (sym (rolls-Patched p)) ∙ fold-roll-Column DType type_step (Column-F.Patched p)
+
+pub point_patched : (p : Patched Column) → point_cost (column.Patched p) ≡ lane_reads p.lanes.n_lanes + point_cost p.inner
+point_patched p = ap point_cost (sym (rolls-Patched p)) ∙ fold-roll-Column ℕ point_step (Column-F.Patched p)
+
+pub cut_patched : (p : Patched Column) → cut_cost (column.Patched p) ≡ cut_cost p.inner
+cut_patched p = ap cut_cost (sym (rolls-Patched p)) ∙ fold-roll-Column ℕ cut_step (Column-F.Patched p)
+
+pub lane_patched : (p : Patched Column) → lane_cost (column.Patched p) ≡ lane_entries p.lanes + lane_cost p.inner
+lane_patched p = ap lane_cost (sym (rolls-Patched p)) ∙ fold-roll-Column ℕ lane_step (Column-F.Patched p)
+
+pub plain_patched : (p : Patched Column) → is_plain (column.Patched p) ≡ is_plain p.inner
+plain_patched p = ap is_plain (sym (rolls-Patched p)) ∙ fold-roll-Column Bool plain_step (Column-F.Patched p)
+
+pub rows_excepted : (x : Excepted Column) → rows_of (column.Excepted x) ≡ excepted x.index (rows_of x.values) (rows_of x.base)
+rows_excepted x = ap rows_of (sym (rolls-Excepted x)) ∙ fold-roll-Column Rows rows_step (Column-F.Excepted x)
+
+pub type_excepted : (x : Excepted Column) → type_of (column.Excepted x) ≡ type_of x.base
+type_excepted x = ap type_of (sym (rolls-Excepted x)) ∙ fold-roll-Column DType type_step (Column-F.Excepted x)
+
+pub point_excepted : (x : Excepted Column) → point_cost (column.Excepted x) ≡ search_cost x.index + (point_cost x.base + point_cost x.values)
+point_excepted x = ap point_cost (sym (rolls-Excepted x)) ∙ fold-roll-Column ℕ point_step (Column-F.Excepted x)
+
+pub cut_excepted : (x : Excepted Column) → cut_cost (column.Excepted x) ≡ places_cut_cost x.index + (cut_cost x.base + cut_cost x.values)
+cut_excepted x = ap cut_cost (sym (rolls-Excepted x)) ∙ fold-roll-Column ℕ cut_step (Column-F.Excepted x)
+
+pub lane_excepted : (x : Excepted Column) → lane_cost (column.Excepted x) ≡ lane_cost x.base + lane_cost x.values
+lane_excepted x = ap lane_cost (sym (rolls-Excepted x)) ∙ fold-roll-Column ℕ lane_step (Column-F.Excepted x)
+
+pub plain_excepted : (x : Excepted Column) → is_plain (column.Excepted x) ≡ (is_plain x.base && is_plain x.values)
+plain_excepted x = ap is_plain (sym (rolls-Excepted x)) ∙ fold-roll-Column Bool plain_step (Column-F.Excepted x)
+
+pub rows_interleave : (i : Interleave Column) → rows_of (column.Interleave i) ≡ woven (map rows_of i.values) (pairs_of i.selectors)
+rows_interleave i = ap rows_of (sym (rolls-Interleave i)) ∙ fold-roll-Column Rows rows_step (Column-F.Interleave i)
+
+pub type_interleave : (i : Interleave Column) → type_of (column.Interleave i) ≡ i.dtype
+type_interleave i = ap type_of (sym (rolls-Interleave i)) ∙ fold-roll-Column DType type_step (Column-F.Interleave i)
+
+pub point_interleave : (i : Interleave Column) → point_cost (column.Interleave i) ≡ 2 + greatest (map point_cost i.values)
+point_interleave i = ap point_cost (sym (rolls-Interleave i)) ∙ fold-roll-Column ℕ point_step (Column-F.Interleave i)
+
+pub cut_interleave : (i : Interleave Column) → cut_cost (column.Interleave i) ≡ 0
+cut_interleave i = ap cut_cost (sym (rolls-Interleave i)) ∙ fold-roll-Column ℕ cut_step (Column-F.Interleave i)
+
+pub lane_interleave : (i : Interleave Column) → lane_cost (column.Interleave i) ≡ total (map lane_cost i.values)
+lane_interleave i = ap lane_cost (sym (rolls-Interleave i)) ∙ fold-roll-Column ℕ lane_step (Column-F.Interleave i)
+
+pub plain_interleave : (i : Interleave Column) → is_plain (column.Interleave i) ≡ all_true (map is_plain i.values)
+plain_interleave i = ap is_plain (sym (rolls-Interleave i)) ∙ fold-roll-Column Bool plain_step (Column-F.Interleave i)
+
 pub sound_layer : (c : Chunked Column) → IsSound (column.Chunked c) → IsSoundLayer (Column-F.Chunked c)
 sound_layer c s = subst IsSoundLayer (outs-Chunked c) (every_here-Column IsSoundLayer (column.Chunked c) s)
 
@@ -61,26 +122,64 @@ sound_here c s = (sound_layer c s).0
 pub types_here : (c : Chunked Column) → IsSound (column.Chunked c) → All (IsOf c.dtype) c.chunks
 types_here c s = (sound_layer c s).1
 
+pub lanes_here : (p : Patched Column) → IsSound (column.Patched p) → AreLanes p
+lanes_here p s = subst IsSoundLayer (outs-Patched p) (every_here-Column IsSoundLayer (column.Patched p) s)
+
+pub exceptions_here : (x : Excepted Column) → IsSound (column.Excepted x) → AreExceptions x
+exceptions_here x s = subst IsSoundLayer (outs-Excepted x) (every_here-Column IsSoundLayer (column.Excepted x) s)
+
+pub woven_here : (i : Interleave Column) → IsSound (column.Interleave i) → AreWoven i
+woven_here i s = subst IsSoundLayer (outs-Interleave i) (every_here-Column IsSoundLayer (column.Interleave i) s)
+
 -- a column with a proof
 abbrev Known : Type 0
 Known = (column : Column) × IsSound column
 
-abbrev chunks_in : Column-F Column → List Column
-chunks_in (Column-F.Flat rows) = []
-chunks_in (Column-F.Chunked c) = c.chunks
+-- the columns right below
+abbrev children_in : {A : Type 0} → Column-F A → List A
+children_in (Column-F.Flat rows) = []
+children_in (Column-F.Chunked c) = c.chunks
+children_in (Column-F.Patched p) = p.inner ∷ []
+children_in (Column-F.Excepted x) = x.base ∷ x.values ∷ []
+children_in (Column-F.Interleave i) = i.values
 
 known_sound : (xs : List Known) → AllByRecursion IsSound (map (λ e. e.0) xs)
 known_sound [] = tt
 known_sound (x ∷ xs) = (x.1, known_sound xs)
 
-layer_sound : (x : Column-F Known) → AllByRecursion IsSound (chunks_in (map-Column Known Column (λ e. e.0) x))
+layer_sound : (x : Column-F Known) → AllByRecursion IsSound (children_in (map-Column Known Column (λ e. e.0) x))
 layer_sound (Column-F.Flat rows) = tt
 layer_sound (Column-F.Chunked c) = known_sound c.chunks
+layer_sound (Column-F.Patched p) = known_sound (p.inner ∷ [])
+layer_sound (Column-F.Excepted x) = known_sound (x.base ∷ x.values ∷ [])
+layer_sound (Column-F.Interleave i) = known_sound i.values
+
+-- what is below a sound column is sound
+sound_within : (x : Column) → IsSound x → AllByRecursion IsSound (children_in (out-Column x))
+sound_within x s =
+    let held = every_held-Column IsSoundLayer x s in
+    subst (AllByRecursion IsSound) (ap children_in held.1) (layer_sound held.0)
 
 pub sound_held : (c : Chunked Column) → IsSound (column.Chunked c) → All IsSound c.chunks
-sound_held c s =
-    let held = every_held-Column IsSoundLayer (column.Chunked c) s in
-    All-from_recursion IsSound c.chunks (subst (AllByRecursion IsSound) (ap chunks_in (held.1 ∙ outs-Chunked c)) (layer_sound held.0))
+sound_held c s = All-from_recursion IsSound c.chunks (subst (AllByRecursion IsSound) (ap children_in (outs-Chunked c)) (sound_within (column.Chunked c) s))
+
+pub inner_held : (p : Patched Column) → IsSound (column.Patched p) → IsSound p.inner
+inner_held p s =
+    let held : AllByRecursion IsSound (p.inner ∷ []) = subst (AllByRecursion IsSound) (ap children_in (outs-Patched p)) (sound_within (column.Patched p) s) in
+    held.0
+
+pub base_held : (x : Excepted Column) → IsSound (column.Excepted x) → IsSound x.base
+base_held x s =
+    let held : AllByRecursion IsSound (x.base ∷ x.values ∷ []) = subst (AllByRecursion IsSound) (ap children_in (outs-Excepted x)) (sound_within (column.Excepted x) s) in
+    held.0
+
+pub values_held : (x : Excepted Column) → IsSound (column.Excepted x) → IsSound x.values
+values_held x s =
+    let held : AllByRecursion IsSound (x.base ∷ x.values ∷ []) = subst (AllByRecursion IsSound) (ap children_in (outs-Excepted x)) (sound_within (column.Excepted x) s) in
+    held.1.0
+
+pub woven_held : (i : Interleave Column) → IsSound (column.Interleave i) → All IsSound i.values
+woven_held i s = All-from_recursion IsSound i.values (subst (AllByRecursion IsSound) (ap children_in (outs-Interleave i)) (sound_within (column.Interleave i) s))
 
 with_proofs : (xs : List Column) → AllByRecursion IsSound xs → List Known
 with_proofs [] s = []
@@ -98,6 +197,21 @@ sound_made c h t s =
     (Column-F.Chunked record { dtype = c.dtype; boundaries = c.boundaries; chunks = with_proofs c.chunks all })
     (ap (λ xs. Column-F.Chunked record { dtype = c.dtype; boundaries = c.boundaries; chunks = xs }) (with_proofs_of c.chunks all)) (h, t))
 
+pub patched_made : (p : Patched Column) → AreLanes p → IsSound p.inner → IsSound (column.Patched p)
+patched_made p h s = subst IsSound (rolls-Patched p) (every_made-Column IsSoundLayer (Column-F.Patched p)
+    (Column-F.Patched record { inner = (p.inner, s); lanes = p.lanes }) refl h)
+
+pub excepted_made : (x : Excepted Column) → AreExceptions x → IsSound x.base → IsSound x.values → IsSound (column.Excepted x)
+excepted_made x h b v = subst IsSound (rolls-Excepted x) (every_made-Column IsSoundLayer (Column-F.Excepted x)
+    (Column-F.Excepted record { base = (x.base, b); index = x.index; values = (x.values, v) }) refl h)
+
+pub woven_made : (i : Interleave Column) → AreWoven i → All IsSound i.values → IsSound (column.Interleave i)
+woven_made i h s =
+    let all = recursion_from_All IsSound i.values s in
+    subst IsSound (rolls-Interleave i) (every_made-Column IsSoundLayer (Column-F.Interleave i)
+    (Column-F.Interleave record { dtype = i.dtype; selectors = i.selectors; values = with_proofs i.values all })
+    (ap (λ xs. Column-F.Interleave record { dtype = i.dtype; selectors = i.selectors; values = xs }) (with_proofs_of i.values all)) h)
+
 pub sound_flat : (rows : Flat) → IsSound (column.Flat rows)
 sound_flat rows = subst IsSound (rolls-Flat rows) (every_made-Column IsSoundLayer (Column-F.Flat rows) (Column-F.Flat rows) refl tt)
 
@@ -108,14 +222,36 @@ total_joined (x ∷ cs) = omega (arith, total_joined cs, length-append (rows_of 
 pub len_chunked : (c : Chunked Column) → IsSound (column.Chunked c) → total c.boundaries ≡ len_of (column.Chunked c)
 len_chunked c s = ap total (sound_here c s) ∙ total_joined c.chunks ∙ ap length (sym (rows_chunked c))
 
--- a column is flat or chunked
-pub by_variant : (P : Column → Type 0) → ((rows : Flat) → P (column.Flat rows)) → ((c : Chunked Column) → P (column.Chunked c)) → (x : Column) → P x
-by_variant P f g x = subst P (roll-out-Column x) (by_layer (out-Column x))
+-- a column is of one of the encodings
+pub by_variant : (P : Column → Type 0) → ((rows : Flat) → P (column.Flat rows)) → ((c : Chunked Column) → P (column.Chunked c)) → ((p : Patched Column) → P (column.Patched p)) →
+    ((x : Excepted Column) → P (column.Excepted x)) → ((i : Interleave Column) → P (column.Interleave i)) → (x : Column) → P x
+by_variant P f c p e i x = subst P (roll-out-Column x) (by_layer (out-Column x))
   where
     by_layer : (y : Column-F Column) → P (roll-Column y)
     by_layer (Column-F.Flat rows) = subst P (sym (rolls-Flat rows)) (f rows)
-    by_layer (Column-F.Chunked c) = subst P (sym (rolls-Chunked c)) (g c)
+    by_layer (Column-F.Chunked y) = subst P (sym (rolls-Chunked y)) (c y)
+    by_layer (Column-F.Patched y) = subst P (sym (rolls-Patched y)) (p y)
+    by_layer (Column-F.Excepted y) = subst P (sym (rolls-Excepted y)) (e y)
+    by_layer (Column-F.Interleave y) = subst P (sym (rolls-Interleave y)) (i y)
 
 -- a read costs something
+abbrev CostsSome : Column → Type 0
+CostsSome x = 1 ≤ point_cost x
+
+some_layer : (y : Column-F ((x : Column) × CostsSome x)) → CostsSome (roll-Column (map-Column ((x : Column) × CostsSome x) Column (λ e. e.0) y))
+some_layer (Column-F.Flat rows) = subst CostsSome (sym (rolls-Flat rows)) (omega (arith, point_flat rows))
+some_layer (Column-F.Chunked c) =
+    let whole : Chunked Column = record { dtype = c.dtype; boundaries = c.boundaries; chunks = map (λ e. e.0) c.chunks } in
+    subst CostsSome (sym (rolls-Chunked whole)) (omega (arith, point_chunked whole, search_bound_positive (length (map point_cost whole.chunks))))
+some_layer (Column-F.Patched p) =
+    let whole : Patched Column = record { inner = p.inner.0; lanes = p.lanes } in
+    subst CostsSome (sym (rolls-Patched whole)) (omega (arith, point_patched whole))
+some_layer (Column-F.Excepted x) =
+    let whole : Excepted Column = record { base = x.base.0; index = x.index; values = x.values.0 } in
+    subst CostsSome (sym (rolls-Excepted whole)) (omega (arith, point_excepted whole, x.base.1))
+some_layer (Column-F.Interleave i) =
+    let whole : Interleave Column = record { dtype = i.dtype; selectors = i.selectors; values = map (λ e. e.0) i.values } in
+    subst CostsSome (sym (rolls-Interleave whole)) (omega (arith, point_interleave whole))
+
 pub point_least : (x : Column) → 1 ≤ point_cost x
-point_least = by_variant (λ x. 1 ≤ point_cost x) (λ rows. omega (arith, point_flat rows)) (λ c. omega (arith, point_chunked c, search_bound_positive (length (map point_cost c.chunks))))
+point_least = ind-Column CostsSome (λ x y e. subst (λ l. CostsSome (roll-Column l)) e (some_layer y))

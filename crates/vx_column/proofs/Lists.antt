@@ -4,7 +4,7 @@ use Rattle.std.proofs.lemmas.List.{drop-append-le, drop-take, take-append-le, ta
 use Rattle.std.proofs.Math.Seq.{take-append-add, drop-append-add}
 use Rattle.std.proofs.lemmas.Bool.Decides.{nat_tests}
 use Rattle.std.specs.List.{slice_range}
-use Rattle.vx_chunks.specs.Bounds.{ends_cut}
+use Rattle.vx_base.specs.Ranges.{ends_cut}
 use Rattle.vx_column.specs.Columns.{greatest}
 
 -- to cut the front off and then the back is to cut the back off and then the front
@@ -50,6 +50,10 @@ sublist_across p x m y q s e start end h k f g =
 pub greatest-append : (xs ys : List ℕ) → greatest (xs ++ ys) ≡ max (greatest xs) (greatest ys)
 greatest-append [] ys = omega arith
 greatest-append (x ∷ xs) ys = omega (arith, greatest-append xs ys)
+
+-- there are two ends
+pub ends_cut_most : (s e n : ℕ) → ends_cut s e n ≤ 2
+ends_cut_most s e n = grind (arith, nat_tests)
 
 -- a part cuts no end that the whole does not
 pub ends_cut_within : (s e n s' e' n' : ℕ) → (s ≡ 0 → s' ≡ 0) → (e ≡ n → e' ≡ n') → ends_cut s' e' n' ≤ ends_cut s e n

@@ -1,6 +1,7 @@
 -- What a column means, by recursion over it.
-use Rattle.std.specs.Prelude.{◌≡◌, ◌≤◌, ◌<◌, ◌^◌, ◌*◌, ◌⊎◌, ℕ, ◌+◌, IsTrue, List, [], ◌∷◌, ◌++◌, map, max, length, Option, Bool, true, ◌&&◌, codes, cond, ◌==◌}
+use Rattle.std.specs.Prelude.{◌≡◌, ◌≤◌, ◌<◌, ◌^◌, ◌*◌, ◌/◌, ◌⊎◌, ℕ, ◌+◌, IsTrue, List, [], ◌∷◌, ◌++◌, map, max, length, get_or, Option, None, Bool, true, ◌&&◌, codes, cond, ◌==◌, nat_lt}
 use Rattle.std.specs.List.{slice_range, All}
+use Rattle.std.specs.Option.{unwrap_or}
 use Rattle.vx_rows.specs.declared.dtype.DType.{DType}
 use Rattle.vx_rows.specs.declared.value.Value.{Value}
 use Rattle.vx_rows.specs.declared.error.ColumnError.{ColumnError}
@@ -8,7 +9,18 @@ use Rattle.vx_rows.specs.declared.error.ColumnError.TheVariants.{OutOfMemory, Ma
 use Rattle.vx_rows.specs.declared.error.Rule.TheVariants.{TooLong, ChunkType}
 use Rattle.vx_base.specs.Column.{Flat, flat}
 use Rattle.vx_search.specs.Places.{search_bound}
+use Rattle.vx_patches.specs.Places.{Index}
+use Rattle.vx_patches.specs.Pairs.{pairs_by, value_at}
+use Rattle.vx_patches.specs.Search.{search_cost}
+use Rattle.vx_patches.specs.Slices.{cut_cost as places_cut_cost}
+use Rattle.vx_lanes.specs.Layouts.{overlaid, exceptions, chunk_row}
+use Rattle.vx_lanes.specs.declared.layout.Layout.{Layout}
+use Rattle.vx_interleave.specs.Selections.{Selection, pairs_of}
 use Rattle.vx_chunks.specs.Bounds.{total}
+use Rattle.vx_column.specs.declared.excepted.Excepted.{Excepted}
+use Rattle.vx_column.specs.declared.patched.Patched.{Patched}
+use Rattle.vx_column.specs.declared.interleave.Interleave.{Interleave}
+use Rattle.vx_column.specs.Kinds.{AreExceptionKinds, AreLaneKinds, AreWovenKinds}
 use Rattle.vx_column.specs.declared.column.Chunked.{Chunked}
 use Rattle.vx_column.specs.declared.column.Column.{Column}
 use Rattle.vx_column.specs.declared.column.Column.TheOpen.{Column-F}
@@ -31,9 +43,25 @@ abbrev pub all_true : List Bool → Bool
 all_true [] = true
 all_true (b ∷ bs) = b && all_true bs
 
+-- the rows from a number on, where a pair of the same number puts its value in a row's place
+abbrev pub rows_below : List (ℕ × Option Value) → ℕ → Rows → Rows
+rows_below pairs number [] = []
+rows_below pairs number (row ∷ rows) = unwrap_or (value_at number pairs) row ∷ rows_below pairs (number + 1) rows
+
+-- rows with exceptions in their places, whose values are rows too
+abbrev pub excepted : Index → Rows → Rows → Rows
+excepted index values rows = rows_below (pairs_by index values) 0 rows
+
+-- the row that each pair names, by the number of a list and the number of a row in it
+abbrev pub woven : List Rows → List (ℕ × ℕ) → Rows
+woven values pairs = map (λ p. get_or (get_or values p.0 []) p.1 None) pairs
+
 abbrev pub id_step : Column-F (List ℕ) → List ℕ
 id_step (Column-F.Flat c) = codes "vx.flat"
 id_step (Column-F.Chunked chunked) = codes "vortex.chunked"
+id_step (Column-F.Patched patched) = codes "vortex.patched"
+id_step (Column-F.Excepted excepted) = codes "vx.excepted"
+id_step (Column-F.Interleave interleave) = codes "vortex.interleave"
 
 -- the name of the encoding
 abbrev pub id_of : Column → List ℕ
@@ -42,6 +70,9 @@ id_of = fold-Column (List ℕ) id_step
 abbrev pub type_step : Column-F DType → DType
 type_step (Column-F.Flat c) = c.dtype
 type_step (Column-F.Chunked chunked) = chunked.dtype
+type_step (Column-F.Patched patched) = patched.inner
+type_step (Column-F.Excepted excepted) = excepted.base
+type_step (Column-F.Interleave interleave) = interleave.dtype
 
 abbrev pub type_of : Column → DType
 type_of = fold-Column DType type_step
@@ -49,14 +80,24 @@ type_of = fold-Column DType type_step
 abbrev pub rows_step : Column-F Rows → Rows
 rows_step (Column-F.Flat c) = c.rows
 rows_step (Column-F.Chunked chunked) = joined chunked.chunks
+rows_step (Column-F.Patched patched) = overlaid patched.lanes patched.inner
+rows_step (Column-F.Excepted e) = excepted e.index e.values e.base
+rows_step (Column-F.Interleave interleave) = woven interleave.values (pairs_of interleave.selectors)
 
 -- the rows of a column
 abbrev pub rows_of : Column → Rows
 rows_of = fold-Column Rows rows_step
 
+-- two lane offsets, the indices of a lane, and a value, where a chunk has so many lanes
+abbrev pub lane_reads : ℕ → ℕ
+lane_reads n_lanes = 2 + 1024 / n_lanes + 1
+
 abbrev pub point_step : Column-F ℕ → ℕ
 point_step (Column-F.Flat c) = 1
 point_step (Column-F.Chunked chunked) = search_bound (length chunked.chunks + 1) + greatest chunked.chunks
+point_step (Column-F.Patched patched) = lane_reads patched.lanes.n_lanes + patched.inner
+point_step (Column-F.Excepted e) = search_cost e.index + (e.base + e.values)
+point_step (Column-F.Interleave interleave) = 2 + greatest interleave.values
 
 -- the most that a read raises the ledger by
 abbrev pub point_cost : Column → ℕ
@@ -65,14 +106,23 @@ point_cost = fold-Column ℕ point_step
 abbrev pub cut_step : Column-F ℕ → ℕ
 cut_step (Column-F.Flat c) = 0
 cut_step (Column-F.Chunked chunked) = search_bound (length chunked.chunks + 1) + greatest chunked.chunks
+cut_step (Column-F.Patched patched) = patched.inner
+cut_step (Column-F.Excepted e) = places_cut_cost e.index + (e.base + e.values)
+cut_step (Column-F.Interleave interleave) = 0
 
 -- the most that a cut end raises the ledger by
 abbrev pub cut_cost : Column → ℕ
 cut_cost = fold-Column ℕ cut_step
 
+abbrev pub lane_entries : Layout → ℕ
+lane_entries layout = length layout.lane_offsets.rows + exceptions layout
+
 abbrev pub lane_step : Column-F ℕ → ℕ
 lane_step (Column-F.Flat c) = 0
 lane_step (Column-F.Chunked chunked) = total chunked.chunks
+lane_step (Column-F.Patched patched) = lane_entries patched.lanes + patched.inner
+lane_step (Column-F.Excepted e) = e.base + e.values
+lane_step (Column-F.Interleave interleave) = total interleave.values
 
 -- the lane offsets and exceptions
 abbrev pub lane_cost : Column → ℕ
@@ -81,6 +131,9 @@ lane_cost = fold-Column ℕ lane_step
 abbrev pub plain_step : Column-F Bool → Bool
 plain_step (Column-F.Flat c) = true
 plain_step (Column-F.Chunked chunked) = all_true chunked.chunks
+plain_step (Column-F.Patched patched) = patched.inner
+plain_step (Column-F.Excepted e) = e.base && e.values
+plain_step (Column-F.Interleave interleave) = all_true interleave.values
 
 abbrev pub is_plain : Column → Bool
 is_plain = fold-Column Bool plain_step
@@ -103,14 +156,60 @@ chunks_of array = array.chunks
 abbrev pub declared_type : Chunked Column → DType
 declared_type array = array.dtype
 
+-- the base and the values of exceptions, and their places
+abbrev pub base_of : Excepted Column → Column
+base_of array = array.base
+
+abbrev pub values_of : Excepted Column → Column
+values_of array = array.values
+
+abbrev pub index_of : Excepted Column → Index
+index_of array = array.index
+
+-- the inner column of lanes, and their layout
+abbrev pub inner_of : Patched Column → Column
+inner_of array = array.inner
+
+abbrev pub lanes_of : Patched Column → Layout
+lanes_of array = array.lanes
+
+-- the values that a column is woven of, in order, and their selectors
+abbrev pub woven_of : Interleave Column → List Column
+woven_of array = array.values
+
+abbrev pub selectors_of : Interleave Column → Selection
+selectors_of array = array.selectors
+
+-- the rows that chunks start to below end of a layout cover: none where there is no chunk
+abbrev pub first_covered : Layout → ℕ → ℕ → ℕ
+first_covered layout start end = cond (nat_lt start end) (chunk_row layout start) 0
+
+abbrev pub end_covered : Layout → ℕ → ℕ → ℕ
+end_covered layout start end = cond (nat_lt start end) (chunk_row layout end) 0
+
 -- of this type
 abbrev pub IsOf : DType → Column → Type 0
 IsOf t column = type_of column ≡ t
+
+-- one lane for each row of an inner column of integers
+abbrev pub AreLanes : Patched Column → Type 0
+AreLanes patched = AreLaneKinds patched.lanes (type_of patched.inner) (len_of patched.inner)
+
+-- as many rows as the base has, and a value for each exception
+abbrev pub AreExceptions : Excepted Column → Type 0
+AreExceptions e = AreExceptionKinds e.index (type_of e.base) (len_of e.base) (type_of e.values) (len_of e.values)
+
+-- each pair names a row of a value
+abbrev pub AreWoven : Interleave Column → Type 0
+AreWoven i = AreWovenKinds i.selectors i.dtype (map type_of i.values) (map len_of i.values)
 
 -- the boundaries are the running sums of the chunks' lengths, and each chunk is of the declared type
 abbrev pub IsSoundLayer : Column-F Column → Type 0
 IsSoundLayer (Column-F.Flat c) = Unit {0}
 IsSoundLayer (Column-F.Chunked chunked) = (chunked.boundaries ≡ map len_of chunked.chunks) × All (IsOf chunked.dtype) chunked.chunks
+IsSoundLayer (Column-F.Patched patched) = AreLanes patched
+IsSoundLayer (Column-F.Excepted e) = AreExceptions e
+IsSoundLayer (Column-F.Interleave interleave) = AreWoven interleave
 
 -- so is each layer
 abbrev pub IsSound : Column → Type 0

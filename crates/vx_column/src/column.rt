@@ -5,17 +5,21 @@ ghost use Rattle.std.specs.Prelude.{All, is_some};
 ghost use Rattle.vx_rows.specs.Sizes.{type_takes_memory};
 ghost use Rattle.vx_chunks.specs.Causes.{SumCause};
 ghost use Rattle.vx_search.specs.Places.{search_bound};
-ghost use Rattle.vx_chunks.specs.Bounds.{total, ends_cut};
+ghost use Rattle.vx_base.specs.Ranges.{ends_cut, SliceCause};
+ghost use Rattle.vx_chunks.specs.Bounds.{total};
 ghost use Rattle.vx_chunks.specs.Plans.{IsPlanOf};
-ghost use Rattle.vx_column.specs.Causes.{SliceCause};
 ghost use Rattle.vx_column.specs.Columns.{rows_of, len_of, type_of, id_of, IsOf, IsSound, point_cost, cut_cost, select_bound};
 ghost use Rattle.vx_column.specs.Columns.{IsSliceOf, IsWhole, ChunksCause, chunks_of, declared_type, last_piece};
 ghost use Rattle.vx_column.specs.declared.column.Column.TheVariants.{Chunked as chunked_column};
 
+use crate::excepted::Excepted;
+use crate::interleave::Interleave;
+use crate::kinds::{lens_of, malformed};
+use crate::patched::Patched;
 use std::alloc::Global;
 use std::ops::Range;
 use vx_base::dtype::same_type;
-use vx_base::{ColumnError, DType, FlatColumn, Ledger, Path, Res, Row, Rule, Seq, Shared, Steps};
+use vx_base::{ColumnError, DType, FlatColumn, Ledger, Res, Row, Rule, Seq, Shared, Steps};
 use vx_chunks::{Boundaries, SlicePlan};
 
 /// Chunks of one type, whose rows are joined in order. Generic in the child, so that columns are the only type that
@@ -34,6 +38,12 @@ pub enum Column {
     Flat(FlatColumn),
     /// The rows of chunks, joined.
     Chunked(Chunked<Column>),
+    /// Rows of integers, with exceptions kept by lane in their places.
+    Patched(Patched<Column>),
+    /// Rows, with the rows of values in the places of some.
+    Excepted(Excepted<Column>),
+    /// Rows that two selectors name among those of several values.
+    Interleave(Interleave<Column>),
 }
 
 /// A column of chunks that are columns.
@@ -41,12 +51,16 @@ pub type ChunkedArray = Chunked<Column>;
 
 impl Column {
     /// The type of the rows.
+    #[cycle(dtype)]
     pub fn dtype(&self) -> &DType
         ensures { result.now ≡ type_of self.now }
     {
         match self {
             Column::Flat(rows) => rows.dtype(),
             Column::Chunked(chunked) => &chunked.dtype,
+            Column::Patched(patched) => patched.dtype(),
+            Column::Excepted(excepted) => excepted.dtype(),
+            Column::Interleave(interleave) => interleave.dtype(),
         }
     }
 
@@ -57,6 +71,9 @@ impl Column {
         match self {
             Column::Flat(_) => "vx.flat",
             Column::Chunked(_) => "vortex.chunked",
+            Column::Patched(_) => "vortex.patched",
+            Column::Excepted(_) => "vx.excepted",
+            Column::Interleave(_) => "vortex.interleave",
         }
     }
 
@@ -68,6 +85,9 @@ impl Column {
         match self {
             Column::Flat(rows) => rows.len(),
             Column::Chunked(chunked) => chunked.boundaries.len(),
+            Column::Patched(patched) => patched.lanes().len(),
+            Column::Excepted(excepted) => excepted.index().array_len(),
+            Column::Interleave(interleave) => interleave.len(),
         }
     }
 
@@ -79,6 +99,9 @@ impl Column {
         match self {
             Column::Flat(rows) => Ok(Column::Flat(rows.share()?)),
             Column::Chunked(chunked) => Ok(Column::Chunked(chunked.share()?)),
+            Column::Patched(patched) => Ok(Column::Patched(patched.share()?)),
+            Column::Excepted(excepted) => Ok(Column::Excepted(excepted.share()?)),
+            Column::Interleave(interleave) => Ok(Column::Interleave(interleave.share()?)),
         }
     }
 
@@ -112,7 +135,7 @@ impl Column {
 
     /// Rows `start` to below `end`, which stand in the column.
     #[cycle(cut)]
-    fn cut<L: Ledger>(
+    pub(crate) fn cut<L: Ledger>(
         &self,
         alloc: Global,
         start: usize,
@@ -134,6 +157,9 @@ impl Column {
                 Ok(Column::Flat(rows))
             }
             Column::Chunked(chunked) => chunked.cut(alloc, start, end, steps),
+            Column::Patched(patched) => patched.cut(alloc, start, end, steps),
+            Column::Excepted(excepted) => excepted.cut(alloc, start, end, steps),
+            Column::Interleave(interleave) => interleave.cut(start, end),
         }
     }
 }
@@ -153,6 +179,9 @@ impl Column {
         match self {
             Column::Flat(rows) => rows.row_at(alloc, at, steps),
             Column::Chunked(chunked) => chunked.row(alloc, at, steps),
+            Column::Patched(patched) => patched.row(alloc, at, steps),
+            Column::Excepted(excepted) => excepted.row(alloc, at, steps),
+            Column::Interleave(interleave) => interleave.row(alloc, at, steps),
         }
     }
 
@@ -168,6 +197,9 @@ impl Column {
         match self {
             Column::Flat(rows) => rows.is_valid_at(at, steps),
             Column::Chunked(chunked) => chunked.is_valid(at, steps),
+            Column::Patched(patched) => patched.is_valid(at, steps),
+            Column::Excepted(excepted) => excepted.is_valid(at, steps),
+            Column::Interleave(interleave) => interleave.is_valid(at, steps),
         }
     }
 
@@ -180,6 +212,9 @@ impl Column {
         match self {
             Column::Flat(_) => 1,
             Column::Chunked(chunked) => chunked.point_cost(),
+            Column::Patched(patched) => patched.point_cost(),
+            Column::Excepted(excepted) => excepted.point_cost(),
+            Column::Interleave(interleave) => interleave.point_cost(),
         }
     }
 
@@ -192,17 +227,20 @@ impl Column {
         match self {
             Column::Flat(_) => 0,
             Column::Chunked(chunked) => chunked.cut_cost(),
+            Column::Patched(patched) => patched.cut_cost(),
+            Column::Excepted(excepted) => excepted.cut_cost(),
+            Column::Interleave(_) => 0,
         }
     }
 
     /// Appends copies of all rows. A refusal leaves `out` as it was.
-    #[tactic(auto, using(crate::proofs::Cuts::select_least))]
     pub fn append_into<L: Ledger>(
         &self,
         alloc: Global,
         out: &mut Seq<Row>,
         steps: &mut Steps<L>,
     ) -> Res<()>
+        requires { IsSound self.now }
         ensures ok { OnOk result (out.new ≡ out.old ++ rows_of self.now) }
         ensures err { IsOkUnless result ColumnError.OutOfMemory }
         ensures left { OnErr result (out.new ≡ out.old) }
@@ -215,26 +253,45 @@ impl Column {
         Ok(())
     }
 
-    fn append_rows<L: Ledger>(
+    /// Appends copies of all rows, or of those before a refusal.
+    #[cycle(append_rows)]
+    pub(crate) fn append_rows<L: Ledger>(
         &self,
         alloc: Global,
         out: &mut Seq<Row>,
         steps: &mut Steps<L>,
     ) -> Res<()>
+        requires { IsSound self.now }
         ensures ok { OnOk result (out.new ≡ out.old ++ rows_of self.now) }
         ensures err { IsOkUnless result ColumnError.OutOfMemory }
-        ensures rise { steps.new ≤ steps.old + len_of self.now }
+        ensures rise { steps.new ≤ steps.old + select_bound self.now (len_of self.now) }
         ensures kept { steps.old ≤ steps.new }
     {
         match self {
             Column::Flat(rows) => rows.copy_into(alloc, 0..rows.len(), out, steps),
-            Column::Chunked(chunked) => {
-                for chunk in chunked.chunks.get().as_slice() {
-                    chunk.append_rows(alloc, out, steps)?;
-                }
-                Ok(())
-            }
+            Column::Chunked(chunked) => chunked.append_rows(alloc, out, steps),
+            Column::Patched(patched) => patched.append_rows(alloc, out, steps),
+            Column::Excepted(_) | Column::Interleave(_) => self.append_each(alloc, out, steps),
         }
+    }
+
+    /// Appends all rows, each read by itself.
+    fn append_each<L: Ledger>(
+        &self,
+        alloc: Global,
+        out: &mut Seq<Row>,
+        steps: &mut Steps<L>,
+    ) -> Res<()>
+        requires { IsSound self.now }
+        ensures ok { OnOk result (out.new ≡ out.old ++ rows_of self.now) }
+        ensures err { IsOkUnless result ColumnError.OutOfMemory }
+        ensures rise { steps.new ≤ steps.old + len_of self.now * point_cost self.now }
+        ensures kept { steps.old ≤ steps.new }
+    {
+        for at in 0..self.len() {
+            out.push(self.row(alloc, at, steps)?)?;
+        }
+        Ok(())
     }
 }
 
@@ -257,10 +314,7 @@ fn bounds(alloc: Global, columns: &[Column]) -> Res<Boundaries>
     ensures fits { OnOk result (total (map len_of columns.now) < 2 ^ 64) }
     ensures err { IfErr result (SumCause (total (map len_of columns.now))) }
 {
-    let mut lens = Vec::new(alloc);
-    for column in columns {
-        lens.push(column.len())?;
-    }
+    let lens = lens_of(alloc, columns)?;
     Boundaries::from_lengths(alloc, lens.as_slice())
 }
 
@@ -276,10 +330,7 @@ impl Chunked<Column> {
     {
         let boundaries = bounds(alloc, chunks.as_slice())?;
         if !all_of(chunks.as_slice(), &dtype) {
-            return Err(ColumnError::Malformed {
-                at: Path::empty(alloc),
-                rule: Rule::ChunkType,
-            });
+            return Err(malformed(alloc, Rule::ChunkType));
         }
         Chunked::of(alloc, dtype, boundaries, chunks)
     }
@@ -416,13 +467,22 @@ fn gather(alloc: Global, front: Column, middle: &[Column], back: Column) -> Res<
     ensures ok { IfOk result (λ columns. columns.items ≡ front ∷ (middle.now ++ last_piece back)) }
     ensures err { IsOkUnless result ColumnError.OutOfMemory }
 {
+    let mut columns = begun(alloc, front, middle)?;
+    if back.len() > 0 {
+        columns.push(back)?;
+    }
+    Ok(columns)
+}
+
+/// A column, and other handles on more.
+fn begun(alloc: Global, front: Column, middle: &[Column]) -> Res<Vec<Column>>
+    ensures ok { IfOk result (λ columns. columns.items ≡ front ∷ middle.now) }
+    ensures err { IsOkUnless result ColumnError.OutOfMemory }
+{
     let mut columns = Vec::new(alloc);
     columns.push(front)?;
     for column in middle {
         columns.push(column.share(alloc)?)?;
-    }
-    if back.len() > 0 {
-        columns.push(back)?;
     }
     Ok(columns)
 }
@@ -495,6 +555,27 @@ impl Chunked<Column> {
         let (chunk, place) = self.find_chunk_idx(at, steps);
         let chunks = self.children();
         chunks[chunk].is_valid(place, steps)
+    }
+
+    /// Appends copies of the rows of each chunk.
+    #[cycle(append_rows)]
+    fn append_rows<L: Ledger>(
+        &self,
+        alloc: Global,
+        out: &mut Seq<Row>,
+        steps: &mut Steps<L>,
+    ) -> Res<()>
+        requires { IsSound (chunked_column self.now) }
+        ensures ok { OnOk result (out.new ≡ out.old ++ rows_of (chunked_column self.now)) }
+        ensures err { IsOkUnless result ColumnError.OutOfMemory }
+        ensures rise { steps.new ≤ steps.old
+            + select_bound (chunked_column self.now) (len_of (chunked_column self.now)) }
+        ensures kept { steps.old ≤ steps.new }
+    {
+        for chunk in self.children() {
+            chunk.append_rows(alloc, out, steps)?;
+        }
+        Ok(())
     }
 
     #[cycle(point_cost)]

@@ -3,9 +3,16 @@
 
 pub mod chunked;
 pub mod column;
+pub mod excepted;
+pub mod interleave;
 pub mod iterators;
+mod kinds;
+pub mod patched;
 pub mod probe;
 
 pub use column::{Chunked, ChunkedArray, Column};
+pub use excepted::{Excepted, ExceptedArray};
+pub use interleave::{Interleave, InterleaveArray};
 pub use iterators::{ChunkIter, NonEmptyChunks};
+pub use patched::{Patched, PatchedArray};
 pub use probe::ArrayProbe;

@@ -1,5 +1,6 @@
 pub mod Readings
 pub mod Levels
+pub mod Numerals
 pub mod Jobs
 pub mod RowLists
 pub mod TypeLists

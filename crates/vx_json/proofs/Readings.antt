@@ -64,14 +64,14 @@ list_fails f d vs i v NoForm is lt at h =
     rw is (all_items-none f vs i v lt (ap (λ u. f (view u)) (sym at) ∙ h))
 list_fails f d vs i v OutOfMemory is lt at h = tt
 
-two_items-other : {X : Type 0} (f : Data → Option X) (vs : List Value) → (length vs ≡ 2 → ⊥)
-    → two_items f (items_view vs) ≡ None
-two_items-other f [] h = refl
-two_items-other f (u ∷ []) h = refl
-two_items-other f (u ∷ v ∷ []) h = absurd (h refl)
-two_items-other f (u ∷ v ∷ w ∷ ws) h = refl
+two_items-other : {X Y : Type 0} (f : Data → Option X) (g : Data → Option Y) (vs : List Value)
+    → (length vs ≡ 2 → ⊥) → two_items f g (items_view vs) ≡ None
+two_items-other f g [] h = refl
+two_items-other f g (u ∷ []) h = refl
+two_items-other f g (u ∷ v ∷ []) h = absurd (h refl)
+two_items-other f g (u ∷ v ∷ w ∷ ws) h = refl
 
 -- another number of items than two
-pub pair_other : {X : Type 0} (f : Data → Option X) (d : Data) (vs : List Value)
-    → as_array d ≡ Some (items_view vs) → (length vs ≡ 2 → ⊥) → pair_of f d ≡ None
-pair_other f d vs is h = rw is (two_items-other f vs h)
+pub pair_other : {X Y : Type 0} (f : Data → Option X) (g : Data → Option Y) (d : Data) (vs : List Value)
+    → as_array d ≡ Some (items_view vs) → (length vs ≡ 2 → ⊥) → pair_of f g d ≡ None
+pair_other f g d vs is h = rw is (two_items-other f g vs h)

@@ -1,8 +1,8 @@
 -- Reading forms out of JSON values: what a value of a form is, or nothing.
-use Rattle.std.specs.Prelude.{◌≡◌, ℕ, ◌==◌, List, [], ◌∷◌, Bool, if◌then◌else◌, Result, Ok, Err, ⊤}
+use Rattle.std.specs.Prelude.{◌≡◌, ℕ, ℤ, ◌==◌, List, [], ◌∷◌, Bool, if◌then◌else◌, Result, Ok, Err, ⊤}
 use Rattle.std.specs.Prelude.{Option, Some, None, is_some, option_map}
 use Rattle.serde_json.specs.Data.{Data, Items, no_items, item, Members}
-use Rattle.serde_json.specs.Find.{get, as_number, as_array, as_object, as_u64}
+use Rattle.serde_json.specs.Find.{get, as_null, as_number, as_array, as_object, as_u64, as_integer}
 use Rattle.serde_json.specs.Events.{members_len}
 use Rattle.vx_json.specs.declared.forms.Unread.{Unread}
 use Rattle.vx_json.specs.declared.forms.Unread.TheVariants.{NoForm, OutOfMemory}
@@ -39,6 +39,14 @@ has key d = is_some (get key d)
 abbrev pub whole_of : Data → Option ℕ
 whole_of d = as_number d >>= as_u64
 
+-- a whole number of either sign
+abbrev pub integer_of : Data → Option ℤ
+integer_of d = as_number d >>= as_integer
+
+-- `null` is nothing, and any other value is read by f
+abbrev pub or_nothing : {X : Type 0} → (Data → Option X) → Data → Option (Option X)
+or_nothing f d = if is_some (as_null d) then Some None else (f d >>= λ x. Some (Some x))
+
 -- each item, read by f
 abbrev pub all_items : {X : Type 0} → (Data → Option X) → Items → Option (List X)
 all_items f no_items = Some []
@@ -48,13 +56,13 @@ all_items f (item d ds) = f d >>= λ x. option_map (λ xs. x ∷ xs) (all_items 
 abbrev pub list_of : {X : Type 0} → (Data → Option X) → Data → Option (List X)
 list_of f d = as_array d >>= all_items f
 
--- exactly two items
-abbrev pub two_items : {X : Type 0} → (Data → Option X) → Items → Option (X × X)
-two_items f no_items = None
-two_items f (item d no_items) = None
-two_items f (item d (item e no_items)) = f d >>= λ x. f e >>= λ y. Some (x, y)
-two_items f (item d (item e (item g ds))) = None
+-- exactly two items, of which f reads the first and g the second
+abbrev pub two_items : {X Y : Type 0} → (Data → Option X) → (Data → Option Y) → Items → Option (X × Y)
+two_items f g no_items = None
+two_items f g (item d no_items) = None
+two_items f g (item d (item e no_items)) = f d >>= λ x. g e >>= λ y. Some (x, y)
+two_items f g (item d (item e (item h ds))) = None
 
--- a list of two items that are read by f
-abbrev pub pair_of : {X : Type 0} → (Data → Option X) → Data → Option (X × X)
-pair_of f d = as_array d >>= two_items f
+-- a list of two items, of which f reads the first and g the second
+abbrev pub pair_of : {X Y : Type 0} → (Data → Option X) → (Data → Option Y) → Data → Option (X × Y)
+pair_of f g d = as_array d >>= two_items f g

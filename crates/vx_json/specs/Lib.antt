@@ -1,5 +1,6 @@
 pub mod Forms
 pub mod Types
+pub mod Texts
 pub mod Rows
 pub mod Parts
 pub mod Steps

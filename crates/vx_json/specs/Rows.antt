@@ -1,14 +1,35 @@
--- The rows that JSON values are.
-use Rattle.std.specs.Prelude.{Option, Some, None, option_map}
-use Rattle.serde_json.specs.Data.{Data, null, boolean, number, string, array, object}
-use Rattle.serde_json.specs.Find.{as_integer}
-use Rattle.vx_rows.specs.declared.value.Value.{Value, Bool, Int}
+-- The rows that JSON values are, by type.
+use Rattle.std.specs.Prelude.{Option, Some, None}
+use Rattle.serde_json.specs.Data.{Data}
+use Rattle.serde_json.specs.Find.{as_bool, as_str}
+use Rattle.vx_rows.specs.declared.dtype.DType.{DType, out-DType}
+use Rattle.vx_rows.specs.declared.dtype.DType.TheOpen.{DType-F}
+use Rattle.vx_rows.specs.declared.value.Value.{Value, Bool, Int, Decimal, Utf8, Binary}
+use Rattle.vx_json.specs.Forms.{◌>>=◌, integer_of, or_nothing}
+use Rattle.vx_json.specs.Texts.{unscaled_of, bytes_of}
 
--- nothing, a boolean or a whole number
-abbrev pub row_of : Data → Option (Option Value)
-row_of null = Some None
-row_of (boolean b) = Some (Some (Bool b))
-row_of (number n) = option_map (λ z. Some (Int z)) (as_integer n)
-row_of (string s) = None
-row_of (array ds) = None
-row_of (object ms) = None
+-- a text that writes a number, unscaled
+abbrev pub decimal_of : Data → Option Value
+decimal_of d = as_str d >>= λ s. unscaled_of s >>= λ z. Some (Decimal z)
+
+-- a text that writes bytes
+abbrev pub binary_of : Data → Option Value
+binary_of d = as_str d >>= λ s. bytes_of s >>= λ bytes. Some (Binary bytes)
+
+-- a value by its type; the values of lists and structs have no reading
+abbrev pub layer_value : {A B : Type 0} → DType-F A B → Data → Option Value
+layer_value (DType-F.Bool n) d = as_bool d >>= λ b. Some (Bool b)
+layer_value (DType-F.Primitive p n) d = integer_of d >>= λ z. Some (Int z)
+layer_value (DType-F.Decimal t n) d = decimal_of d
+layer_value (DType-F.Utf8 n) d = as_str d >>= λ s. Some (Utf8 s)
+layer_value (DType-F.Binary n) d = binary_of d
+layer_value (DType-F.List t n) d = None
+layer_value (DType-F.FixedSizeList t k n) d = None
+layer_value (DType-F.Struct fs n) d = None
+
+abbrev pub value_of : DType → Data → Option Value
+value_of t d = layer_value (out-DType t) d
+
+-- a row by its type: `null` is nothing, and any other value is of the type's kind
+abbrev pub row_of : DType → Data → Option (Option Value)
+row_of t d = or_nothing (value_of t) d

@@ -13,7 +13,7 @@ unfoldable pub slice_form : Data → Option Step
 slice_form d = do
   len ← object_of 1 d
   items ← get (codes "slice") d
-  ends ← pair_of whole_of items
+  ends ← pair_of whole_of whole_of items
   Some (Slice ends.0 ends.1)
 
 -- `{"points":[n],"kept":b}`

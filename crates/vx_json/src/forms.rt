@@ -2,7 +2,8 @@
 ghost use Rattle.std.specs.Prelude.{◌≡◌};
 ghost use Rattle.serde_json.specs.Find.{get, as_array, as_str, as_bool};
 ghost use Rattle.serde_json.specs.View.{view, items_view};
-ghost use Rattle.vx_json.specs.Forms.{Gives, has, object_of, whole_of as whole_spec, list_of, pair_of};
+ghost use Rattle.vx_json.specs.Forms.{Gives, has, object_of, whole_of as whole_spec, integer_of as integer_spec};
+ghost use Rattle.vx_json.specs.Forms.{list_of, pair_of};
 
 use serde_json::Value;
 use std::alloc::{AllocError, AllocFailed, Global};
@@ -94,6 +95,16 @@ pub fn whole_of(value: &Value) -> Result<usize, Unread>
     }
 }
 
+/// A whole number of either sign.
+pub fn integer_of(value: &Value) -> Result<i128, Unread>
+    ensures { Gives (λ z. z) result (integer_spec (view value.now)) }
+{
+    match value {
+        Value::Number(number) => number.as_i128().ok_or(Unread::NoForm),
+        _ => Err(Unread::NoForm),
+    }
+}
+
 /// A list of whole numbers.
 pub fn wholes_of(alloc: Global, value: &Value) -> Result<Seq<usize>, Unread>
     ensures { Gives (λ v. v) result (list_of whole_spec (view value.now)) }
@@ -108,7 +119,7 @@ pub fn wholes_of(alloc: Global, value: &Value) -> Result<Seq<usize>, Unread>
 
 /// Two whole numbers.
 pub fn pair_of_wholes(value: &Value) -> Result<(usize, usize), Unread>
-    ensures { Gives (λ p. p) result (pair_of whole_spec (view value.now)) }
+    ensures { Gives (λ p. p) result (pair_of whole_spec whole_spec (view value.now)) }
 {
     match array_of(value)?.as_slice() {
         [first, second] => Ok((whole_of(first)?, whole_of(second)?)),

@@ -11,6 +11,7 @@ pub mod refusal;
 pub mod row_json;
 pub mod rows;
 pub mod steps;
+pub mod texts;
 pub mod type_json;
 pub mod types;
 

@@ -1,7 +1,7 @@
 //! Parts out of JSON.
 ghost use Rattle.std.specs.Prelude.{◌≡◌};
 ghost use Rattle.serde_json.specs.View.{view};
-ghost use Rattle.vx_json.specs.Forms.{Gives, list_of};
+ghost use Rattle.vx_json.specs.Forms.{Gives, list_of, or_nothing};
 ghost use Rattle.vx_json.specs.Parts as spec;
 
 use crate::forms::{Unread, array_of, field, has_field, has_len, whole_of};
@@ -10,7 +10,7 @@ use crate::types::type_of;
 use serde_json::Value;
 use std::alloc::Global;
 use vx_base::FlatColumn;
-use vx_plan::Part;
+use vx_plan::{Boxed, Part};
 use vx_rows::fits::row_fits;
 use vx_rows::{ColumnError, DType, Row, Seq};
 
@@ -20,6 +20,9 @@ pub enum Tag {
     Flat,
     Constant,
     Chunked,
+    Lanes,
+    Excepted,
+    Interleaved,
 }
 
 fn tag_of(value: &Value) -> Option<Tag>
@@ -31,6 +34,12 @@ fn tag_of(value: &Value) -> Option<Tag>
         Some(Tag::Constant)
     } else if has_field(value, "chunked") {
         Some(Tag::Chunked)
+    } else if has_field(value, "lanes") {
+        Some(Tag::Lanes)
+    } else if has_field(value, "excepted") {
+        Some(Tag::Excepted)
+    } else if has_field(value, "interleaved") {
+        Some(Tag::Interleaved)
     } else {
         None
     }
@@ -65,12 +74,22 @@ pub fn flat_of(alloc: Global, value: &Value) -> Result<FlatColumn, Unread>
     let kind = field(value, "flat")?;
     let items = field(value, "rows")?;
     let dtype = type_of(kind)?;
-    let rows = rows_of(alloc, items)?;
+    let rows = rows_of(alloc, &dtype, items)?;
     fitted(alloc, dtype, rows)
 }
 
+/// Flat rows, or `null` where there are none.
+fn flat_or_null(alloc: Global, value: &Value) -> Result<Option<FlatColumn>, Unread>
+    ensures { Gives (λ c. c) result (or_nothing spec.flat_form (view value.now)) }
+{
+    if value.is_null() {
+        return Ok(None);
+    }
+    Ok(Some(flat_of(alloc, value)?))
+}
+
 #[tactic(auto, unfolding(crate::specs::Parts::constant_form))]
-fn constant_of(value: &Value) -> Result<Part, Unread>
+fn constant_of(alloc: Global, value: &Value) -> Result<Part, Unread>
     ensures { Gives (λ p. p) result (spec.constant_form (view value.now)) }
 {
     has_len(value, 3)?;
@@ -78,7 +97,7 @@ fn constant_of(value: &Value) -> Result<Part, Unread>
     let item = field(value, "row")?;
     let count = field(value, "len")?;
     let dtype = type_of(kind)?;
-    let row = row_of(item)?;
+    let row = row_of(alloc, &dtype, item)?;
     check_row(&dtype, &row)?;
     let len = whole_of(count)?;
     Ok(Part::Constant { dtype, row, len })
@@ -97,6 +116,78 @@ fn chunked_of(alloc: Global, value: &Value, depth: usize) -> Result<Part, Unread
     Ok(Part::Chunked {
         dtype,
         chunks: Seq::from_vec(chunks),
+    })
+}
+
+#[cycle(parts)]
+#[tactic(auto, unfolding(crate::specs::Parts::lanes_form))]
+fn lanes_of(alloc: Global, value: &Value, depth: usize) -> Result<Part, Unread>
+    ensures { Gives (λ p. p) result (spec.lanes_form (spec.part_at depth) (view value.now)) }
+{
+    has_len(value, 6)?;
+    let inner_part = field(value, "lanes")?;
+    let lane_count = field(value, "n_lanes")?;
+    let shift = field(value, "offset")?;
+    let offsets_part = field(value, "lane_offsets")?;
+    let indices_part = field(value, "indices")?;
+    let values_part = field(value, "values")?;
+    let inner = part_of(alloc, inner_part, depth)?;
+    let n_lanes = whole_of(lane_count)?;
+    let offset = whole_of(shift)?;
+    let lane_offsets = flat_of(alloc, offsets_part)?;
+    let indices = flat_of(alloc, indices_part)?;
+    let values = flat_of(alloc, values_part)?;
+    Ok(Part::Lanes {
+        inner: Boxed::new(alloc, inner)?,
+        n_lanes,
+        offset,
+        lane_offsets,
+        indices,
+        values,
+    })
+}
+
+#[cycle(parts)]
+#[tactic(auto, unfolding(crate::specs::Parts::excepted_form))]
+fn excepted_of(alloc: Global, value: &Value, depth: usize) -> Result<Part, Unread>
+    ensures { Gives (λ p. p) result (spec.excepted_form (spec.part_at depth) (view value.now)) }
+{
+    has_len(value, 5)?;
+    let base_part = field(value, "excepted")?;
+    let shift = field(value, "offset")?;
+    let indices_part = field(value, "indices")?;
+    let values_part = field(value, "values")?;
+    let offsets_part = field(value, "chunk_offsets")?;
+    let base = part_of(alloc, base_part, depth)?;
+    let offset = whole_of(shift)?;
+    let indices = flat_of(alloc, indices_part)?;
+    let values = part_of(alloc, values_part, depth)?;
+    let chunk_offsets = flat_or_null(alloc, offsets_part)?;
+    Ok(Part::Excepted {
+        base: Boxed::new(alloc, base)?,
+        offset,
+        indices,
+        values: Boxed::new(alloc, values)?,
+        chunk_offsets,
+    })
+}
+
+#[cycle(parts)]
+#[tactic(auto, unfolding(crate::specs::Parts::interleaved_form))]
+fn interleaved_of(alloc: Global, value: &Value, depth: usize) -> Result<Part, Unread>
+    ensures { Gives (λ p. p) result (spec.interleaved_form (spec.part_at depth) (view value.now)) }
+{
+    has_len(value, 3)?;
+    let items = field(value, "interleaved")?;
+    let arrays_part = field(value, "array_indices")?;
+    let rows_part = field(value, "row_indices")?;
+    let values = parts_of(alloc, items, depth)?;
+    let array_indices = flat_of(alloc, arrays_part)?;
+    let row_indices = flat_of(alloc, rows_part)?;
+    Ok(Part::Interleaved {
+        values: Seq::from_vec(values),
+        array_indices,
+        row_indices,
     })
 }
 
@@ -125,7 +216,10 @@ pub fn part_of(alloc: Global, value: &Value, depth: usize) -> Result<Part, Unrea
     match tag_of(value) {
         None => Err(Unread::NoForm),
         Some(Tag::Flat) => Ok(Part::Flat(flat_of(alloc, value)?)),
-        Some(Tag::Constant) => constant_of(value),
+        Some(Tag::Constant) => constant_of(alloc, value),
         Some(Tag::Chunked) => chunked_of(alloc, value, depth - 1),
+        Some(Tag::Lanes) => lanes_of(alloc, value, depth - 1),
+        Some(Tag::Excepted) => excepted_of(alloc, value, depth - 1),
+        Some(Tag::Interleaved) => interleaved_of(alloc, value, depth - 1),
     }
 }

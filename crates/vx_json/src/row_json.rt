@@ -1,5 +1,7 @@
 //! Rows as JSON.
 ghost use Rattle.std.specs.Prelude.{◌≡◌, IfOk, map};
+ghost use Rattle.hex.specs.Hex.{encode_lower};
+ghost use Rattle.serde_json.specs.Data.{string};
 ghost use Rattle.serde_json.specs.View.{view};
 ghost use Rattle.vx_json.specs.RowJson as spec;
 
@@ -19,6 +21,12 @@ fn int_json(z: i128) -> Json
     }
 }
 
+fn binary_json(alloc: Global, bytes: &[u8]) -> Result<Json, AllocError>
+    ensures { IfOk result (λ v. view v ≡ string (encode_lower bytes.now)) }
+{
+    Ok(Json::String(hex::encode(alloc, bytes)?))
+}
+
 #[cycle(rows)]
 fn value_json(alloc: Global, value: &Value) -> Result<Json, AllocError>
     ensures { IfOk result (λ v. view v ≡ spec.value_json value.now) }
@@ -28,7 +36,7 @@ fn value_json(alloc: Global, value: &Value) -> Result<Json, AllocError>
         Value::Int(z) => Ok(int_json(*z)),
         Value::Decimal(z) => Ok(Json::String(z.to_string(alloc)?)),
         Value::Utf8(text) => Ok(Json::String(String::from_str(alloc, text.as_str())?)),
-        Value::Binary(bytes) => Ok(Json::String(hex::encode(alloc, bytes.as_slice())?)),
+        Value::Binary(bytes) => binary_json(alloc, bytes.as_slice()),
         Value::List(rows) => Ok(Json::Array(rows_json(alloc, rows.as_slice())?)),
         Value::Struct(rows) => Ok(Json::Array(rows_json(alloc, rows.as_slice())?)),
     }

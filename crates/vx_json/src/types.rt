@@ -1,12 +1,14 @@
 //! Types out of JSON.
 ghost use Rattle.std.specs.Prelude.{◌≡◌};
 ghost use Rattle.serde_json.specs.View.{view};
-ghost use Rattle.vx_json.specs.Forms.{Gives};
+ghost use Rattle.vx_json.specs.Forms.{Gives, pair_of, whole_of as whole_spec, integer_of as integer_spec};
 ghost use Rattle.vx_json.specs.Types as spec;
 
-use crate::forms::{Unread, text_of};
+use crate::forms::{
+    Unread, array_of, bool_of, field, has_field, has_len, integer_of, text_of, whole_of,
+};
 use serde_json::Value;
-use vx_rows::{DType, Nullability, PType};
+use vx_rows::{DType, DecimalDType, Nullability, PType};
 
 fn plain_named(text: &str) -> Option<DType>
     ensures { result ≡ spec.plain_named text.now }
@@ -22,6 +24,8 @@ fn plain_named(text: &str) -> Option<DType>
         "i16" => Some(DType::Primitive(PType::I16, plain)),
         "i32" => Some(DType::Primitive(PType::I32, plain)),
         "i64" => Some(DType::Primitive(PType::I64, plain)),
+        "utf8" => Some(DType::Utf8(plain)),
+        "binary" => Some(DType::Binary(plain)),
         _ => None,
     }
 }
@@ -40,6 +44,8 @@ fn nullable_named(text: &str) -> Option<DType>
         "i16?" => Some(DType::Primitive(PType::I16, nullable)),
         "i32?" => Some(DType::Primitive(PType::I32, nullable)),
         "i64?" => Some(DType::Primitive(PType::I64, nullable)),
+        "utf8?" => Some(DType::Utf8(nullable)),
+        "binary?" => Some(DType::Binary(nullable)),
         _ => None,
     }
 }
@@ -53,9 +59,63 @@ fn type_named(text: &str) -> Option<DType>
     }
 }
 
-/// The type that a value names. A text that ends in `?` names a nullable one.
+fn named_type(value: &Value) -> Result<DType, Unread>
+    ensures { Gives (λ t. t) result (spec.named_type (view value.now)) }
+{
+    type_named(text_of(value)?).ok_or(Unread::NoForm)
+}
+
+fn digits_of(precision: usize, scale: i128) -> Result<DecimalDType, Unread>
+    ensures { Gives (λ t. t) result (spec.digits_of precision scale) }
+{
+    if precision <= 38 && -128 <= scale && scale <= 127 {
+        DecimalDType::new(precision as u8, scale as i8).ok_or(Unread::NoForm)
+    } else {
+        Err(Unread::NoForm)
+    }
+}
+
+fn nullability_of(value: &Value) -> Result<Nullability, Unread>
+    ensures { Gives (λ n. n) result (spec.nullability_of (view value.now)) }
+{
+    if bool_of(value)? {
+        Ok(Nullability::Nullable)
+    } else {
+        Ok(Nullability::NonNullable)
+    }
+}
+
+/// A whole number that isn't negative, and one of either sign.
+fn sizes_of(value: &Value) -> Result<(usize, i128), Unread>
+    ensures { Gives (λ p. p) result (pair_of whole_spec integer_spec (view value.now)) }
+{
+    match array_of(value)?.as_slice() {
+        [first, second] => Ok((whole_of(first)?, integer_of(second)?)),
+        _ => Err(Unread::NoForm),
+    }
+}
+
+#[tactic(auto, unfolding(crate::specs::Types::decimal_form))]
+fn decimal_type(value: &Value) -> Result<DType, Unread>
+    ensures { Gives (λ t. t) result (spec.decimal_form (view value.now)) }
+{
+    has_len(value, 2)?;
+    let items = field(value, "decimal")?;
+    let flag = field(value, "nullable")?;
+    let (precision, scale) = sizes_of(items)?;
+    let digits = digits_of(precision, scale)?;
+    let nullability = nullability_of(flag)?;
+    Ok(DType::Decimal(digits, nullability))
+}
+
+/// The type that a value names: a decimal is an object, and any other a text, with `?` behind it where it's nullable.
+/// Lists, lists of fixed size and structs have no reading.
 pub fn type_of(value: &Value) -> Result<DType, Unread>
     ensures { Gives (λ t. t) result (spec.type_of (view value.now)) }
 {
-    type_named(text_of(value)?).ok_or(Unread::NoForm)
+    if has_field(value, "decimal") {
+        decimal_type(value)
+    } else {
+        named_type(value)
+    }
 }

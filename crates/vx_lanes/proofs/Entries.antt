@@ -1,10 +1,9 @@
 -- Where the exceptions of a sound layout lie.
-use Rattle.std.proofs.Common.{◌≡◌, ℕ, zero, suc, ◌+◌, ◌-◌, ◌*◌, ◌/◌, ◌%◌, ◌^◌, ◌<◌, ◌≤◌, ◌⊎◌, inl, inr, List, length, get_or, refl, sym, ◌∙◌, ap, subst, arith, rules, Option, Some, None, Bool, true, false, cond}
-use Rattle.std.specs.Option.{option_or}
+use Rattle.std.proofs.Common.{◌≡◌, ℕ, zero, suc, ◌+◌, ◌-◌, ◌*◌, ◌/◌, ◌%◌, ◌^◌, ◌<◌, ◌≤◌, inl, inr, sym, ◌∙◌, ap, subst, arith}
 use Rattle.std.proofs.lemmas.Nat.{pow_pos, pow-add, pow_below, mul-le, mul-add-lt, le-div}
-use Rattle.std.proofs.lemmas.Bool.{cases_lt, cases_eq}
+use Rattle.std.proofs.lemmas.Bool.{cases_lt}
 use Rattle.vx_lanes.specs.declared.layout.Layout.{Layout}
-use Rattle.vx_lanes.specs.Layouts.{IsLayout, Excepts, chunks_of, chunk_of, place_of, entries, exceptions, lane_start, index_of}
+use Rattle.vx_lanes.specs.Layouts.{IsLayout, chunks_of, entries, exceptions, lane_start, index_of}
 
 pub lanes_some : (l : Layout) → IsLayout l → 0 < l.n_lanes
 lanes_some l s = subst (λ n. 0 < n) (sym s.lanes.2) (pow_pos s.lanes.0)

@@ -1,11 +1,11 @@
 -- The exception for a row: there is at most one, and its row's lane holds it.
-use Rattle.std.proofs.Common.{◌≡◌, ℕ, zero, suc, ◌+◌, ◌-◌, ◌*◌, ◌/◌, ◌%◌, ◌^◌, ◌<◌, ◌≤◌, ◌⊎◌, inl, inr, List, length, get_or, refl, sym, ◌∙◌, ap, subst, arith, rules, Option, Some, None, Bool, true, false, cond}
+use Rattle.std.proofs.Common.{◌≡◌, ℕ, zero, suc, ◌+◌, ◌-◌, ◌*◌, ◌%◌, ◌<◌, ◌≤◌, inl, inr, refl, sym, ◌∙◌, ap, subst, arith, Some, None, Bool, true, false, cond}
 use Rattle.std.specs.Option.{option_or}
 use Rattle.std.proofs.lemmas.Nat.{mod-mul-add}
-use Rattle.std.proofs.lemmas.Bool.{cases_lt, cases_eq}
+use Rattle.std.proofs.lemmas.Bool.{cases_lt}
 use Rattle.std.proofs.lemmas.Bool.Decides.{nat_tests}
 use Rattle.vx_lanes.specs.declared.layout.Layout.{Layout}
-use Rattle.vx_lanes.specs.Layouts.{IsLayout, Excepts, excepts, first_below, exception_below, exception_of, chunks_of, chunk_of, place_of, entries, exceptions, lane_start, index_of}
+use Rattle.vx_lanes.specs.Layouts.{IsLayout, Excepts, excepts, first_below, exception_of, chunks_of, chunk_of, place_of, entries, exceptions, lane_start, index_of}
 use Rattle.vx_lanes.proofs.Entries.{lanes_some, entry_within, entry_inside, starts_rise, crossing, order_within}
 
 -- the first number that passes

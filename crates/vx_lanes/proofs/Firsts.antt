@@ -1,26 +1,28 @@
 -- The first rule of a list whose test is true.
-use Rattle.std.proofs.Common.{◌≡◌, ℕ, zero, suc, ◌+◌, ◌-◌, ◌*◌, ◌^◌, ◌<◌, ◌≤◌, List, length, [], ◌∷◌, ◌++◌, refl, sym, ◌∙◌, ap, subst, arith, Option, Some, None, Bool, true, false, cond, not, ◌||◌, ◌⊎◌, inl, inr, add-one, eqb, ltb, leb, get_or, ◌&&◌}
+use Rattle.std.proofs.Common.{◌≡◌, ℕ, zero, suc, ◌+◌, ◌-◌, ◌*◌, ◌^◌, ◌<◌, ◌≤◌, List, length, [], ◌∷◌, ◌++◌, refl, sym, ◌∙◌, ap, subst, arith, Option, Some, Bool, true, false, cond, not, ◌||◌, inl, inr, add-one, eqb, ltb, leb, ◌&&◌}
 use Rattle.std.specs.Option.{option_or}
 use Rattle.std.proofs.lemmas.Bool.{cases_lt}
 use Rattle.std.proofs.lemmas.Bool.Decides.{nat_tests}
 use Rattle.std.proofs.lemmas.Nat.{pow_below, pow_pos}
+use Rattle.vx_rows.specs.declared.error.Rule.{Rule}
 use Rattle.vx_base.specs.Numbers.{numbers_of}
 use Rattle.vx_base.specs.Checks.{non_decreasing}
 use Rattle.vx_base.proofs.CheckLemmas.{non_decreasing-says, length_numbers}
-use Rattle.vx_lanes.specs.Layouts.{chunks_of, lane_start, entries, exceptions, index_of}
+use Rattle.vx_lanes.specs.Layouts.{chunks_of, lane_start, entries}
 use Rattle.vx_lanes.proofs.Entries.{risen}
 use Rattle.vx_lanes.specs.declared.layout.Layout.{Layout}
-use Rattle.vx_lanes.specs.Rules.{too_long, lane_count, lane_offsets_length, lane_offsets_fall, lane_offsets_end, first_true, any_below, any_between}
+use Rattle.vx_base.specs.Rules.{first_broken}
+use Rattle.vx_lanes.specs.Rules.{too_long, lane_count, lane_offsets_length, lane_offsets_fall, any_below, any_between}
 
 -- a rule of the first list, or else of the second
-pub first_join : {A : Type 0} (xs ys : List (A × Bool)) (r : Option A) → first_true xs ≡ r → first_true (xs ++ ys) ≡ option_or r (first_true ys)
-unfolding first_true
-first_join {A = A} [] ys r e = ap (λ o. option_or o (first_true ys)) e
-first_join {A = A} (x ∷ xs) ys r e = by_cases x.1 refl e (first_join xs ys)
+pub first_join : (xs ys : List (Rule × Bool)) (r : Option Rule) → first_broken xs ≡ r → first_broken (xs ++ ys) ≡ option_or r (first_broken ys)
+unfolding first_broken
+first_join [] ys r e = ap (λ o. option_or o (first_broken ys)) e
+first_join (x ∷ xs) ys r e = by_cases x.1 refl e (first_join xs ys)
   where
-    by_cases : (b : Bool) → x.1 ≡ b → cond x.1 (Some x.0) (first_true xs) ≡ r → ((q : Option A) → first_true xs ≡ q → first_true (xs ++ ys) ≡ option_or q (first_true ys)) → cond x.1 (Some x.0) (first_true (xs ++ ys)) ≡ option_or r (first_true ys)
-    by_cases true f e h = ap (λ b. cond b (Some x.0) (first_true (xs ++ ys))) f ∙ ap (λ o. option_or o (first_true ys)) (sym (ap (λ b. cond b (Some x.0) (first_true xs)) f) ∙ e)
-    by_cases false f e h = ap (λ b. cond b (Some x.0) (first_true (xs ++ ys))) f ∙ h r (sym (ap (λ b. cond b (Some x.0) (first_true xs)) f) ∙ e)
+    by_cases : (b : Bool) → x.1 ≡ b → cond x.1 (Some x.0) (first_broken xs) ≡ r → ((q : Option Rule) → first_broken xs ≡ q → first_broken (xs ++ ys) ≡ option_or q (first_broken ys)) → cond x.1 (Some x.0) (first_broken (xs ++ ys)) ≡ option_or r (first_broken ys)
+    by_cases true f e h = ap (λ b. cond b (Some x.0) (first_broken (xs ++ ys))) f ∙ ap (λ o. option_or o (first_broken ys)) (sym (ap (λ b. cond b (Some x.0) (first_broken xs)) f) ∙ e)
+    by_cases false f e h = ap (λ b. cond b (Some x.0) (first_broken (xs ++ ys))) f ∙ h r (sym (ap (λ b. cond b (Some x.0) (first_broken xs)) f) ∙ e)
 
 -- one number more
 pub any_below_more : (test : ℕ → Bool) (n : ℕ) → any_below test (n + 1) ≡ (any_below test n || test n)
@@ -146,11 +148,25 @@ any_between_join test a b c h w =
     let whole : b + (c - b) ≡ c = omega arith in
     ap (any_between test a) (sym whole) ∙ join_more test a b (c - b) h ∙ ap (λ n. any_between test a b || any_between test b n) whole
 
-pub order_same : (from k index before i j : ℕ) → (from < k → before ≡ j) → index ≡ i → (ltb from k && leb index before) ≡ (ltb from k && leb i j)
-order_same from k index before i j f e =
-    elim (cases_lt from k) as (λ _. (ltb from k && leb index before) ≡ (ltb from k && leb i j)) [
-      | inl below ↦ ap (λ x. ltb from k && leb x before) e ∙ ap (λ x. ltb from k && leb i x) (f below)
+pub order_same : (from k index last i j : ℕ) → from ≤ k → (from < k → last ≡ j) → index ≡ i → (not (eqb k from) && leb index last) ≡ (ltb from k && leb i j)
+order_same from k index last i j h f e =
+    elim (cases_lt from k) as (λ _. (not (eqb k from) && leb index last) ≡ (ltb from k && leb i j)) [
+      | inl below ↦
+          let apart : not (eqb k from) ≡ ltb from k = grind (arith, nat_tests) in
+          ap (λ x. x && leb index last) apart ∙ ap (λ x. ltb from k && leb x last) e ∙ ap (λ x. ltb from k && leb i x) (f below)
       | inr above ↦
+          let first : not (eqb k from) ≡ false = grind (arith, nat_tests) in
           let none : ltb from k ≡ false = grind (arith, nat_tests) in
-          ap (λ x. x && leb index before) none ∙ sym (ap (λ x. x && leb i j) none)
+          ap (λ x. x && leb index last) first ∙ sym (ap (λ x. x && leb i j) none)
     ]
+
+or_or : (a b c : Bool) → ((a || b) || c) ≡ (a || (b || c))
+or_or true b c = refl
+or_or false b c = refl
+
+-- what passed before, or passes in a range
+pub or_between_none : (test : ℕ → Bool) (k : ℕ) (before : Bool) → before ≡ (before || any_between test k k)
+or_between_none test k before = or_false before ∙ ap (λ x. before || x) (sym (any_between_none test k))
+
+pub or_between_more : (test : ℕ → Bool) (from k : ℕ) (before : Bool) → from ≤ k → ((before || any_between test from k) || test k) ≡ (before || any_between test from (k + 1))
+or_between_more test from k before h = or_or before (any_between test from k) (test k) ∙ ap (λ x. before || x) (sym (any_between_more test from k h))

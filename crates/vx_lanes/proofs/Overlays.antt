@@ -1,13 +1,13 @@
 -- Rows with exceptions laid over them.
-use Rattle.std.proofs.Common.{◌≡◌, ℕ, zero, suc, ◌+◌, ◌-◌, ◌*◌, ◌/◌, ◌%◌, ◌^◌, ◌<◌, ◌≤◌, ◌⊎◌, inl, inr, List, ℤ, length, get_or, [], ◌∷◌, refl, sym, ◌∙◌, ap, subst, arith, add-one, Option, Some, None, Bool, true, false, cond, set, eqb}
-use Rattle.std.specs.Option.{option_or, option_map_or, is_some}
+use Rattle.std.proofs.Common.{◌≡◌, ℕ, zero, suc, ◌+◌, ◌-◌, ◌*◌, ◌/◌, ◌%◌, ◌^◌, ◌<◌, ◌≤◌, inl, inr, List, length, get_or, [], ◌∷◌, refl, sym, ◌∙◌, ap, subst, arith, add-one, Option, Some, None, Bool, true, false, cond, set, eqb}
+use Rattle.std.specs.Option.{option_or, is_some}
 use Rattle.std.proofs.lemmas.Bool.{cases_lt, cases_eq}
-use Rattle.std.proofs.lemmas.Nat.{div-mul-add, mul-le, div_below}
-use Rattle.std.proofs.lemmas.List.{ext_get_or, get_or_default, get_or-set_same, get_or-set_other, length-set, get_or_past}
+use Rattle.std.proofs.lemmas.Nat.{div-mul-add, div_below}
+use Rattle.std.proofs.lemmas.List.{get_or-set_same, get_or-set_other}
 use Rattle.std.proofs.lemmas.Bool.Decides.{nat_tests}
 use Rattle.vx_rows.specs.declared.value.Value.{Value}
 use Rattle.vx_lanes.specs.declared.layout.Layout.{Layout}
-use Rattle.vx_lanes.specs.Layouts.{IsLayout, Excepts, excepts, first_below, exception_below, exception_of, exceptions, value_of, value_under, chunks_of, chunk_of, place_of, entries, lane_start, index_of, row_under, rows_under, overlaid, laid}
+use Rattle.vx_lanes.specs.Layouts.{IsLayout, Excepts, excepts, first_below, exception_below, exceptions, value_of, value_under, chunks_of, chunk_of, place_of, entries, lane_start, index_of, row_under, rows_under, overlaid, laid}
 use Rattle.vx_lanes.proofs.Entries.{starts_rise, index_low, lanes_some, entry_within}
 use Rattle.vx_lanes.proofs.Exceptions.{first_none, excepts_true, excepts_false, Belongs, entry_of, entry_of_within, holds, one_exception, chunk_within}
 

@@ -1,8 +1,7 @@
 -- A part of a layout stands for the same exceptions.
-use Rattle.std.proofs.Common.{◌≡◌, ℕ, zero, suc, ◌+◌, ◌-◌, ◌*◌, ◌/◌, ◌%◌, ◌^◌, ◌<◌, ◌≤◌, ◌⊎◌, inl, inr, List, length, get_or, slice_index, refl, sym, ◌∙◌, ap, subst, arith, Option, Some, None, Bool, true, false, cond, ◌&&◌, leb, ltb, eqb, nat_lt, min}
+use Rattle.std.proofs.Common.{◌≡◌, ℕ, zero, suc, ◌+◌, ◌-◌, ◌*◌, ◌/◌, ◌%◌, ◌<◌, ◌≤◌, List, length, slice_index, refl, sym, ◌∙◌, ap, arith, Option, Some, None, Bool, true, false, cond, ◌&&◌, leb, ltb, eqb, nat_lt}
 use Rattle.std.specs.Option.{option_or}
 use Rattle.std.specs.List.{slice_range}
-use Rattle.std.proofs.lemmas.Bool.{cases_lt}
 use Rattle.std.proofs.lemmas.Bool.Decides.{nat_tests}
 use Rattle.std.proofs.lemmas.List.Edits.{length-between, get_or-between}
 use Rattle.std.proofs.Math.Nat.{mul-add-mod_self_right}
@@ -11,7 +10,7 @@ use Rattle.vx_rows.specs.declared.value.Value.{Value}
 use Rattle.vx_base.specs.Column.{Flat, flat}
 use Rattle.vx_base.specs.Numbers.{numbers_of, magnitude, row_int}
 use Rattle.vx_base.proofs.Numbers.{numbers_at}
-use Rattle.vx_lanes.proofs.Entries.{starts_rise, entries_fit, lanes_few, lanes_some}
+use Rattle.vx_lanes.proofs.Entries.{starts_rise}
 use Rattle.vx_lanes.specs.declared.layout.Layout.{Layout}
 use Rattle.vx_lanes.specs.Layouts.{IsLayout, excepts, first_below, exception_of, exceptions, chunks_of, chunk_of, place_of, entries, lane_start, index_of, layout_part, layout_slice, layout_chunks, chunk_row}
 

@@ -1,5 +1,5 @@
 -- A layout that breaks no rule is sound.
-use Rattle.std.proofs.Common.{◌≡◌, ℕ, zero, suc, ◌+◌, ◌-◌, ◌*◌, ◌%◌, ◌^◌, ◌<◌, ◌≤◌, List, length, [], ◌∷◌, refl, sym, ◌∙◌, ap, subst, arith, Option, Some, None, Bool, true, false, cond, not, eqb, ltb, leb}
+use Rattle.std.proofs.Common.{◌≡◌, ℕ, ◌+◌, ◌-◌, ◌%◌, ◌^◌, ◌<◌, ◌≤◌, List, length, ◌∷◌, refl, sym, ◌∙◌, ap, arith, None, Bool, true, false, not, eqb, leb}
 use Rattle.std.proofs.lemmas.Bool.Decides.{nat_tests}
 use Rattle.vx_lanes.specs.declared.layout.Layout.{Layout}
 use Rattle.vx_rows.specs.Types.{AlikeTypes, layer_with}
@@ -8,14 +8,16 @@ use Rattle.vx_rows.specs.declared.dtype.DType.{DType, out-DType}
 use Rattle.vx_rows.specs.declared.dtype.DType.TheOpen.{DType-F}
 use Rattle.vx_rows.specs.declared.dtype.Fields.{Fields}
 use Rattle.vx_base.specs.Numbers.{is_integer, layer_is_integer}
+use Rattle.vx_rows.specs.declared.error.Rule.{Rule}
 use Rattle.vx_base.specs.Checks.{all_valid}
 use Rattle.vx_lanes.specs.Layouts.{IsLayout, is_u16, is_u32, entries, exceptions, lane_start, index_of}
-use Rattle.vx_lanes.specs.Rules.{first_true, first_broken, any_below, any_between, any_entry, over_range, off_lane, off_order, too_long, lane_count, lane_offset, lane_offsets_type, lane_offsets_length, lane_offsets_fall, lane_offsets_end, lane_index_type, lane_lengths, lane_too_many, lane_index_range, lane_index_lane, lane_index_order, lane_value_null, offset_rules, index_rules, value_rules}
+use Rattle.vx_base.specs.Rules.{first_broken}
+use Rattle.vx_lanes.specs.Rules.{layout_fault, any_between, any_entry, over_range, off_lane, off_order, lane_count, lane_offset, lane_offsets_type, lane_offsets_length, lane_offsets_fall, lane_offsets_end, lane_index_type, lane_lengths, lane_too_many, lane_index_range, lane_index_lane, lane_index_order, lane_value_null, offset_rules}
 use Rattle.vx_lanes.proofs.Firsts.{any_below_false, short_fits, lane_count_tells, length_tells, fall_tells, not_false}
 
 -- no test is true
-pub passed : {A : Type 0} (x : A) (b : Bool) (ts : List (A × Bool)) → first_true ((x, b) ∷ ts) ≡ None → (b ≡ false) × (first_true ts ≡ None)
-unfolding first_true
+pub passed : (x : Rule) (b : Bool) (ts : List (Rule × Bool)) → first_broken ((x, b) ∷ ts) ≡ None → (b ≡ false) × (first_broken ts ≡ None)
+unfolding first_broken
 passed x true ts e = absurd cc
 passed x false ts e = (refl, e)
 
@@ -88,7 +90,7 @@ layer_alike (DType-F.Struct fs n) = refl
 pub alike_integer : (s t : DType) → AlikeTypes s t → is_integer t ≡ true → is_integer s ≡ true
 alike_integer s t a e = sym (layer_alike (out-DType s)) ∙ ap layer_is_integer a ∙ layer_alike (out-DType t) ∙ e
 
-pub alike_tells : (l : Layout) (alike : Bool) → first_broken l alike ≡ None → alike ≡ true
+pub alike_tells : (l : Layout) (alike : Bool) → layout_fault l alike ≡ None → alike ≡ true
 alike_tells l alike e =
     let p1 = passed _ _ _ e in
     let p2 = passed _ _ _ p1.1 in
@@ -106,7 +108,7 @@ alike_tells l alike e =
     let p14 = passed _ _ _ p13.1 in
     not_false alike p14.0
 
-pub sound : (l : Layout) (alike : Bool) → is_integer l.patch_values.dtype ≡ true → first_broken l alike ≡ None → IsLayout l
+pub sound : (l : Layout) (alike : Bool) → is_integer l.patch_values.dtype ≡ true → layout_fault l alike ≡ None → IsLayout l
 sound l alike i e =
     let p1 = passed _ _ _ e in
     let p2 = passed _ _ _ p1.1 in
@@ -148,7 +150,7 @@ pub record Offsets (l : Layout) : Type 0 where
   pub length : lane_offsets_length l ≡ false
   pub rising : lane_offsets_fall l ≡ false
 
-pub offsets_pass : (l : Layout) → first_true (offset_rules l) ≡ None → Offsets l
+pub offsets_pass : (l : Layout) → first_broken (offset_rules l) ≡ None → Offsets l
 offsets_pass l e =
     let p1 = passed _ _ _ e in
     let p2 = passed _ _ _ p1.1 in

@@ -1,5 +1,5 @@
 -- What the types of a layout's columns say of their rows.
-use Rattle.std.proofs.Common.{ℕ, ℤ, ◌≡◌, ◌∙◌, sym, ap, refl, length, get_or, ◌<◌, Bool, true, false, List, Option, Some, None}
+use Rattle.std.proofs.Common.{◌≡◌, refl, true}
 use Rattle.std.proofs.lemmas.Bool.{false≢true}
 use Rattle.vx_rows.specs.declared.kinds.PType.TheVariants.{U16, U32}
 use Rattle.vx_rows.specs.declared.kinds.Nullability.TheVariants.{NonNullable}

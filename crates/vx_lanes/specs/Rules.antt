@@ -1,5 +1,5 @@
 -- The rules of lane layouts, in their order.
-use Rattle.std.specs.Prelude.{◌≡◌, ◌↔◌, ℕ, zero, suc, ◌+◌, ◌-◌, ◌*◌, ◌/◌, ◌%◌, ◌^◌, ◌<◌, ◌≤◌, List, [], ◌∷◌, ◌++◌, length, Option, Some, None, Bool, true, false, cond, not, ◌&&◌, ◌||◌, nat_le, nat_lt, ◌==◌, IsTrue}
+use Rattle.std.specs.Prelude.{◌≡◌, ◌↔◌, ℕ, zero, suc, ◌+◌, ◌-◌, ◌*◌, ◌%◌, ◌^◌, List, [], ◌∷◌, ◌++◌, length, Option, Some, None, Bool, false, cond, not, ◌&&◌, ◌||◌, nat_le, nat_lt, ◌==◌, IsTrue}
 use Rattle.vx_rows.specs.Types.{AlikeTypes}
 use Rattle.vx_rows.specs.declared.dtype.DType.{DType}
 use Rattle.vx_rows.specs.declared.error.Rule.{Rule}
@@ -8,13 +8,9 @@ use Rattle.vx_rows.specs.declared.error.ColumnError.{ColumnError}
 use Rattle.vx_rows.specs.declared.error.ColumnError.TheVariants.{Malformed}
 use Rattle.vx_base.specs.Numbers.{numbers_of}
 use Rattle.vx_base.specs.Checks.{all_valid, non_decreasing}
+use Rattle.vx_base.specs.Rules.{first_broken}
 use Rattle.vx_lanes.specs.declared.layout.Layout.{Layout}
 use Rattle.vx_lanes.specs.Layouts.{is_u16, is_u32, chunks_of, entries, exceptions, lane_start, index_of}
-
--- the first name whose test is true
-unfoldable pub first_true : {A : Type 0} → List (A × Bool) → Option A
-first_true [] = None
-first_true (t ∷ ts) = cond t.1 (Some t.0) (first_true ts)
 
 -- some number below n passes
 unfoldable pub any_below : (ℕ → Bool) → ℕ → Bool
@@ -111,12 +107,12 @@ abbrev pub value_rules : Layout → Bool → List (Rule × Bool)
 value_rules l alike = (LaneValueType, not alike) ∷ (LaneValueNull, lane_value_null l) ∷ []
 
 -- the first rule that a layout breaks
-abbrev pub first_broken : Layout → Bool → Option Rule
-first_broken l alike = first_true (offset_rules l ++ (index_rules l ++ value_rules l alike))
+abbrev pub layout_fault : Layout → Bool → Option Rule
+layout_fault l alike = first_broken (offset_rules l ++ (index_rules l ++ value_rules l alike))
 
 -- the first rule that a layout breaks over rows of a type
 abbrev pub IsFirstBroken : DType → Layout → Option Rule → Type 0
-IsFirstBroken t l broken = (alike : Bool) × (IsTrue alike ↔ AlikeTypes l.patch_values.dtype t) × (first_broken l alike ≡ broken)
+IsFirstBroken t l broken = (alike : Bool) × (IsTrue alike ↔ AlikeTypes l.patch_values.dtype t) × (layout_fault l alike ≡ broken)
 
 -- why a layout is refused: by its first broken rule alone
 abbrev pub LayoutCause : DType → Layout → ColumnError → Type 0

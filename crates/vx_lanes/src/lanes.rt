@@ -65,13 +65,30 @@ impl Lanes {
             patch_indices,
             patch_values,
         };
-        match parts.first_broken(alike, steps) {
+        match parts.layout_fault(alike, steps) {
             Some(rule) => Err(ColumnError::Malformed {
                 at: Path::empty(alloc),
                 rule,
             }),
             None => Ok(Lanes { parts }),
         }
+    }
+
+    /// Another handle on the same layout. Copies no row.
+    pub fn share(&self) -> Res<Lanes>
+        ensures ok { IfOk result (λ other. other ≡ self.now) }
+        ensures err { IsOkUnless result ColumnError.OutOfMemory }
+    {
+        Ok(Lanes {
+            parts: Layout {
+                len: self.len(),
+                n_lanes: self.n_lanes(),
+                offset: self.offset(),
+                lane_offsets: self.lane_offsets().share()?,
+                patch_indices: self.patch_indices().share()?,
+                patch_values: self.patch_values().share()?,
+            },
+        })
     }
 
     /// The number of rows.

@@ -2,7 +2,8 @@
 ghost use Rattle.std.specs.Prelude.{◌≡◌, ◌∷◌, [], ℕ, ◌+◌, ◌-◌, ◌*◌, ◌/◌, ◌%◌, ◌^◌, ◌<◌, ◌≤◌, length, Some, None, true, false, not, ◌==◌, nat_le, nat_lt, ◌&&◌, ◌||◌, IsTrue};
 ghost use Rattle.vx_base.specs.Numbers.{numbers_of, is_unsigned};
 ghost use Rattle.vx_lanes.specs.Layouts.{is_u16, is_u32, chunks_of, lane_start, index_of, entries, exceptions};
-ghost use Rattle.vx_lanes.specs.Rules.{first_true, first_broken, offset_rules, index_rules, value_rules, any_between, over_range, off_lane, off_order, too_long, lane_count, lane_offset, lane_offsets_type, lane_offsets_length, lane_offsets_fall, lane_offsets_end, lane_index_type, lane_lengths, lane_too_many, lane_index_range, lane_index_lane, lane_index_order, lane_value_null};
+ghost use Rattle.vx_base.specs.Rules.{first_broken};
+ghost use Rattle.vx_lanes.specs.Rules.{layout_fault, offset_rules, index_rules, value_rules, any_between, over_range, off_lane, off_order, too_long, lane_count, lane_offset, lane_offsets_type, lane_offsets_length, lane_offsets_fall, lane_offsets_end, lane_index_type, lane_lengths, lane_too_many, lane_index_range, lane_index_lane, lane_index_order, lane_value_null};
 
 use crate::numbers::number_at;
 use vx_base::checks::{all_valid, non_decreasing};
@@ -31,18 +32,19 @@ pub struct Layout {
     pub patch_values: FlatColumn,
 }
 
-/// Which rules the indices of some entries break.
+/// Which rules the indices that were read break, and the index that was read last.
 #[derive(Clone, Copy)]
 struct Faults {
     range: bool,
     lane: bool,
     order: bool,
+    last: usize,
 }
 
 impl Layout {
     /// The first rule that the parts break; `alike` tells whether the values' type is the rows' up to nullability.
-    pub(crate) fn first_broken<L: Ledger>(&self, alike: bool, steps: &mut Steps<L>) -> Option<Rule>
-        ensures first { result ≡ first_broken self.now alike }
+    pub(crate) fn layout_fault<L: Ledger>(&self, alike: bool, steps: &mut Steps<L>) -> Option<Rule>
+        ensures first { result ≡ layout_fault self.now alike }
         ensures rise { steps.new ≤ steps.old + length self.now.lane_offsets.rows + exceptions self.now }
         ensures kept { steps.old ≤ steps.new }
     {
@@ -56,9 +58,9 @@ impl Layout {
     }
 
     /// The first rule of the lane offsets that is broken.
-    #[tactic(auto, unfolding(crate::specs::Rules::first_true))]
+    #[tactic(auto, unfolding(vx_base::specs::Rules::first_broken))]
     fn offset_fault(&self) -> Option<Rule>
-        ensures { result ≡ first_true (offset_rules self.now) }
+        ensures { result ≡ first_broken (offset_rules self.now) }
     {
         if self.is_too_long() {
             return Some(Rule::TooLong);
@@ -82,10 +84,10 @@ impl Layout {
     }
 
     /// The first rule of the indices that is broken. Each lane offset is read once, and each index at most once.
-    #[tactic(auto, unfolding(crate::specs::Rules::first_true))]
+    #[tactic(auto, unfolding(vx_base::specs::Rules::first_broken))]
     fn index_fault<L: Ledger>(&self, steps: &mut Steps<L>) -> Option<Rule>
-        requires { first_true (offset_rules self.now) ≡ None }
-        ensures first { result ≡ first_true (index_rules self.now) }
+        requires { first_broken (offset_rules self.now) ≡ None }
+        ensures first { result ≡ first_broken (index_rules self.now) }
         ensures rise { steps.new ≤ steps.old + length self.now.lane_offsets.rows + exceptions self.now }
         ensures kept { steps.old ≤ steps.new }
     {
@@ -116,9 +118,9 @@ impl Layout {
     }
 
     /// The first rule of the values that is broken.
-    #[tactic(auto, unfolding(crate::specs::Rules::first_true))]
+    #[tactic(auto, unfolding(vx_base::specs::Rules::first_broken))]
     fn value_fault(&self, alike: bool) -> Option<Rule>
-        ensures { result ≡ first_true (value_rules self.now alike) }
+        ensures { result ≡ first_broken (value_rules self.now alike) }
     {
         if !alike {
             return Some(Rule::LaneValueType);
@@ -272,72 +274,60 @@ impl Layout {
             range: false,
             lane: false,
             order: false,
+            last: 0,
         };
         let mut from = self.start_of(0, end, steps);
         for g in 0..self.lane_offsets.len() - 1 {
             let to = self.start_of(g + 1, end, steps);
-            faults = faults.with(self.entry_faults(g % self.n_lanes, from, to, steps));
+            faults = self.entry_faults(g % self.n_lanes, from, to, faults, steps);
             from = to;
         }
         faults
     }
 
-    /// What the indices from `from` to below `to` break as an entry of a lane.
+    /// What the indices from `from` to below `to` break as an entry of a lane, besides those read before.
     fn entry_faults<L: Ledger>(
         &self,
         lane: usize,
         from: usize,
         to: usize,
+        before: Faults,
         steps: &mut Steps<L>,
     ) -> Faults
         requires indices { IsTrue (is_unsigned self.now.patch_indices.dtype) }
         requires lanes { 0 < self.now.n_lanes }
         requires ordered { from ≤ to }
         requires inside { to ≤ exceptions self.now }
-        ensures range { result.range ≡ any_between (over_range self.now) from to }
-        ensures lane { result.lane ≡ any_between (off_lane self.now lane) from to }
-        ensures order { result.order ≡ any_between (off_order self.now from) from to }
+        ensures range { result.range ≡ (before.range || any_between (over_range self.now) from to) }
+        ensures lane { result.lane ≡ (before.lane || any_between (off_lane self.now lane) from to) }
+        ensures order { result.order ≡ (before.order || any_between (off_order self.now from) from to) }
         ensures cost { steps.new ≡ steps.old + (to - from) }
     {
-        let mut faults = Faults {
-            range: false,
-            lane: false,
-            order: false,
-        };
-        let mut before = 0;
+        let mut faults = before;
         for k in from..to {
             let index = self.index_at(k, steps);
-            faults = faults.with(Faults {
-                range: index >= CHUNK,
-                lane: index % self.n_lanes != lane,
-                order: falls_in(from, k, before, index),
-            });
-            before = index;
+            faults = faults.with(index, lane, self.n_lanes, k == from);
         }
         faults
     }
 }
 
 impl Faults {
-    /// What either breaks.
-    fn with(self, other: Faults) -> Faults
-        ensures range { result.range ≡ (self.range || other.range) }
-        ensures lane { result.lane ≡ (self.lane || other.lane) }
-        ensures order { result.order ≡ (self.order || other.order) }
+    /// With one index more, in an entry of a lane; `first` tells whether it is the entry's first.
+    fn with(self, index: usize, lane: usize, n_lanes: usize, first: bool) -> Faults
+        requires { 0 < n_lanes }
+        ensures range { result.range ≡ (self.range || nat_le 1024 index) }
+        ensures lane { result.lane ≡ (self.lane || not (index % n_lanes == lane)) }
+        ensures order { result.order ≡ (self.order || (not first && nat_le index self.last)) }
+        ensures last { result.last ≡ index }
     {
         Faults {
-            range: self.range || other.range,
-            lane: self.lane || other.lane,
-            order: self.order || other.order,
+            range: self.range || index >= CHUNK,
+            lane: self.lane || index % n_lanes != lane,
+            order: self.order || (!first && index <= self.last),
+            last: index,
         }
     }
-}
-
-/// Whether the index of exception k isn't above the one before it in an entry from `from` on.
-fn falls_in(from: usize, k: usize, before: usize, index: usize) -> bool
-    ensures { result ≡ (nat_lt from k && nat_le index before) }
-{
-    from < k && index <= before
 }
 
 fn is_u32(dtype: &DType) -> bool

@@ -89,7 +89,8 @@ within_twice index i s e t f p q r one n h k l m (Some d) x =
     ∙ cut_twice (get_or co 0 0) (get_or co a 0) (get_or co (a + c) 0) w p r cut.base rise cut.uncut
     ∙ ap (λ j. w + j - (get_or co (a + c) 0 - get_or co 0 0)) (sym m) ∙ ap (λ j. w + one - (get_or co j 0 - get_or co 0 0)) (chunk_twice index.offset s t)
 
-kept_some : (index part : Index) (s e p q : ℕ) → IsSliceOf index part s e p q → p < q
+-- some place is kept, so the places are in order
+pub kept_some : (index part : Index) (s e p q : ℕ) → IsSliceOf index part s e p q → p < q
 kept_some index part s e p q a =
     let size : length (indices_of part) ≡ length (slice_range (indices_of index) p q) = ap length (ap indices_of a.is ∙ slice_numbers index.indices.rows p q) in
     omega (arith, a.sound.some, size, length-take (q - p) (drop p (indices_of index)))

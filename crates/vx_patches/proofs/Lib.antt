@@ -7,3 +7,4 @@ pub mod Slices
 pub mod Chains
 pub mod Pairs
 pub mod Overlays
+pub mod Columns

@@ -13,8 +13,9 @@ use Rattle.vx_base.specs.Column.{Flat}
 use Rattle.vx_base.specs.Numbers.{numbers_of, is_unsigned}
 use Rattle.vx_base.specs.Checks.{count_below, counts_below, all_within}
 use Rattle.vx_base.proofs.CheckLemmas.{strictly_increasing-says, within_at, length_numbers}
-use Rattle.vx_patches.specs.Places.{IsIndex, HaveChunks, HaveChunkOffsets, chunks_over}
-use Rattle.vx_patches.specs.Making.{first_broken, index_rules, chunk_rules, patches_fault, Refuses, made}
+use Rattle.vx_patches.specs.Places.{Index, IsIndex, HaveChunks, HaveChunkOffsets, chunks_over, indices_of}
+use Rattle.vx_base.specs.Rules.{first_broken, Refuses}
+use Rattle.vx_patches.specs.Making.{index_rules, chunk_rules, places_fault, index_fault, chunk_fault, patches_fault, differ_in_number, made}
 use Rattle.vx_patches.proofs.Counts.{Rising, Rising-from_increasing, rise-le, count_is, count-le, count-le-length}
 
 zero_at : (offset : ℕ) → 1024 * (offset / 1024 + 0) ≤ offset
@@ -76,12 +77,14 @@ first_holds false rule o e = (refl, e)
 
 -- the first rule of two lists of rules
 pub broken-append : (ps qs : List (Rule × Bool)) → first_broken ps ≡ None → first_broken (ps ++ qs) ≡ first_broken qs
+unfolding first_broken
 broken-append [] qs e = refl
 broken-append (p ∷ ps) qs e =
     let h = first_holds p.1 p.0 (first_broken ps) e in
     rw h.0 (broken-append ps qs h.1)
 
 pub broken-front : (ps qs : List (Rule × Bool)) (rule : Rule) → first_broken ps ≡ Some rule → first_broken (ps ++ qs) ≡ Some rule
+unfolding first_broken
 broken-front [] qs rule e = absurd (cc)
 broken-front ((r, true) ∷ ps) qs rule e = e
 broken-front ((r, false) ∷ ps) qs rule e = broken-front ps qs rule e
@@ -103,6 +106,7 @@ pub record HoldIndices (len offset : ℕ) (indices : Flat) : Type 0 where
   pub below : get_or (numbers_of indices.rows) (length (numbers_of indices.rows) - 1) 0 < offset + len
 
 pub hold_indices : (len offset : ℕ) (indices : Flat) → first_broken (index_rules len offset indices) ≡ None → HoldIndices len offset indices
+unfolding first_broken
 hold_indices len offset indices e =
     let xs = numbers_of indices.rows in
     let a = first_holds _ _ _ e in
@@ -127,6 +131,7 @@ hold_indices len offset indices e =
 
 chunks_made : (len offset : ℕ) (indices : Flat) (offsets : Option Flat) → HoldIndices len offset indices → first_broken (chunk_rules len offset indices offsets) ≡ None →
     HaveChunks len offset (numbers_of indices.rows) offsets 0
+unfolding first_broken
 chunks_made len offset indices None h e = refl
 chunks_made len offset indices (Some c) h e =
     let a = first_holds _ _ _ e in
@@ -139,21 +144,54 @@ chunks_made len offset indices (Some c) h e =
           (are_counts (offset / 1024) (numbers_of c.rows) (numbers_of indices.rows) (not_false _ d.0)),
     )
 
-pub index_made : (len offset : ℕ) (indices : Flat) (offsets : Option Flat) → first_broken (index_rules len offset indices) ≡ None → first_broken (chunk_rules len offset indices offsets) ≡ None →
-    IsIndex (made len offset indices offsets)
-index_made len offset indices offsets e f =
-    let h = hold_indices len offset indices e in
+index_held : (len offset : ℕ) (indices : Flat) (offsets : Option Flat) → HoldIndices len offset indices → chunk_fault len offset indices offsets ≡ None → IsIndex (made len offset indices offsets)
+index_held len offset indices offsets h f =
     record { short = h.short; unsigned = h.unsigned; some = h.some; rising = h.rising; above = h.above; below = h.below; chunks = chunks_made len offset indices offsets h f }
+
+-- indices that break no rule
+pub places_made : (len offset : ℕ) (indices : Flat) → places_fault len offset indices ≡ None → IsIndex (made len offset indices None)
+unfolding first_broken
+places_made len offset indices e = index_held len offset indices None (hold_indices len offset indices e) refl
+
+-- chunk offsets that break no rule, for indices that broke none
+pub offsets_made : (index : Index) → IsIndex index → (offsets : Option Flat) → chunk_fault index.len index.offset index.indices offsets ≡ None → IsIndex (made index.len index.offset index.indices offsets)
+offsets_made index i offsets e =
+    index_held index.len index.offset index.indices offsets (record { short = i.short; some = i.some; unsigned = i.unsigned; rising = i.rising; above = i.above; below = i.below }) e
 
 -- ---- the first rule that is broken
 
 pub refused : (o : Option Rule) (rule : Rule) (e : ColumnError) → o ≡ Some rule → e ≡ Malformed [] rule → Refuses o e
 refused o rule e h k = subst (λ (p : Option Rule). Refuses p e) (sym h) k
 
+-- what refuses by the rules in front refuses by all
+pub refused-front : (ps qs : List (Rule × Bool)) (e : ColumnError) → Refuses (first_broken ps) e → Refuses (first_broken (ps ++ qs)) e
+refused-front ps qs e r = by_fault (first_broken ps) refl r
+  where
+    by_fault : (o : Option Rule) → first_broken ps ≡ o → Refuses o e → Refuses (first_broken (ps ++ qs)) e
+    by_fault None f r = absurd r
+    by_fault (Some rule) f r = subst (λ (p : Option Rule). Refuses p e) (sym (broken-front ps qs rule f)) r
+
+-- and so do the rules behind, where none in front is broken
+pub refused-behind : (ps qs : List (Rule × Bool)) (e : ColumnError) → first_broken ps ≡ None → Refuses (first_broken qs) e → Refuses (first_broken (ps ++ qs)) e
+refused-behind ps qs e f r = subst (λ (p : Option Rule). Refuses p e) (sym (broken-append ps qs f)) r
+
 -- the number of values is tried after the indices
-pub broken_count : (len offset : ℕ) (indices values : Flat) (offsets : Option Flat) → first_broken (index_rules len offset indices) ≡ None → length values.rows ≢ length indices.rows →
-    patches_fault len offset indices values offsets ≡ Some ValueCount
-broken_count len offset indices values offsets e h =
+pub broken_count : (index : Index) (len offset : ℕ) (indices values : Flat) (offsets : Option Flat) → index ≡ made len offset indices None → index_fault len offset indices None ≡ None →
+    length values.rows ≢ length (indices_of index) → patches_fault len offset indices values offsets ≡ Some ValueCount
+unfolding first_broken
+broken_count index len offset indices values offsets f e h =
+    let differ : length values.rows ≢ length indices.rows = λ same. h (same ∙ sym (length_numbers indices.rows) ∙ sym (ap (λ (n : Index). length (indices_of n)) f)) in
     let apart : nat_eq (length values.rows) (length indices.rows) ≡ false = grind (arith, nat_tests) in
-    broken-append (index_rules len offset indices) ((ValueCount, not (nat_eq (length values.rows) (length indices.rows))) ∷ chunk_rules len offset indices offsets) e
-    ∙ ap (λ (b : Bool). cond (not b) (Some ValueCount) (first_broken (chunk_rules len offset indices offsets))) apart
+    broken-append (index_rules len offset indices) ((ValueCount, differ_in_number values indices) ∷ chunk_rules len offset indices offsets) e
+    ∙ ap (λ (b : Bool). cond (not b) (Some ValueCount) (chunk_fault len offset indices offsets)) apart
+
+-- and the chunk offsets after the number of values
+pub broken_chunks : (index : Index) (len offset : ℕ) (indices values : Flat) (offsets : Option Flat) → index ≡ made len offset indices None → index_fault len offset indices None ≡ None →
+    length values.rows ≡ length (indices_of index) → patches_fault len offset indices values offsets ≡ chunk_fault index.len index.offset index.indices offsets
+unfolding first_broken
+broken_chunks index len offset indices values offsets f e h =
+    let number : length values.rows ≡ length indices.rows = h ∙ ap (λ (n : Index). length (indices_of n)) f ∙ length_numbers indices.rows in
+    let same : nat_eq (length values.rows) (length indices.rows) ≡ true = grind (arith, nat_tests) in
+    broken-append (index_rules len offset indices) ((ValueCount, differ_in_number values indices) ∷ chunk_rules len offset indices offsets) e
+    ∙ ap (λ (b : Bool). cond (not b) (Some ValueCount) (chunk_fault len offset indices offsets)) same
+    ∙ sym (ap (λ (n : Index). chunk_fault n.len n.offset n.indices offsets) f)

@@ -20,18 +20,18 @@ use Rattle.vx_patches.proofs.Slices.{rising_rows, slice_numbers, whole_part, who
 use Rattle.vx_patches.proofs.Pairs.{pairs_kept}
 
 -- the rows of the pairs inside
-firsts_inside : {A : Type 0} (s e : ℕ) (ps : List (ℕ × A)) → firsts (pairs_inside s e ps) ≡ rows_inside s e (firsts ps)
+pub firsts_inside : {A : Type 0} (s e : ℕ) (ps : List (ℕ × A)) → firsts (pairs_inside s e ps) ≡ rows_inside s e (firsts ps)
 firsts_inside s e [] = refl
 firsts_inside {A} s e (p ∷ ps) = elim (cases_Bool (lies_inside s e p.0)) as (λ _. firsts (pairs_inside s e (p ∷ ps)) ≡ rows_inside s e (firsts (p ∷ ps))) [
   | inl yes_in ↦ ap firsts (pairs_yes s e p ps yes_in) ∙ ap (λ (ns : List ℕ). (p.0 - s) ∷ ns) (firsts_inside s e ps) ∙ sym (rows_yes s e p.0 (firsts ps) yes_in)
   | inr not_in ↦ ap firsts (pairs_no s e p ps not_in) ∙ firsts_inside s e ps ∙ sym (rows_no s e p.0 (firsts ps) not_in)
 ]
 
-no_pairs : {A : Type 0} (ps : List (ℕ × A)) → firsts ps ≡ [] → ps ≡ []
+pub no_pairs : {A : Type 0} (ps : List (ℕ × A)) → firsts ps ≡ [] → ps ≡ []
 no_pairs [] e = refl
 no_pairs (p ∷ ps) e = absurd (omega (arith, ap length e))
 
-value_found : {A : Type 0} (ns : List ℕ) (vs : List A) (row p : ℕ) (d : A) → length vs ≡ length ns → ((j : ℕ) → j < p → get_or ns j 0 ≢ row) → p < length ns → get_or ns p 0 ≡ row →
+pub value_found : {A : Type 0} (ns : List ℕ) (vs : List A) (row p : ℕ) (d : A) → length vs ≡ length ns → ((j : ℕ) → j < p → get_or ns j 0 ≢ row) → p < length ns → get_or ns p 0 ≡ row →
     value_at row (zip ns vs) ≡ Some (get_or vs p d)
 value_found [] vs row p d long before h e = absurd (omega arith)
 value_found (n ∷ ns) [] row p d long before h e = absurd (omega arith)
@@ -43,7 +43,7 @@ value_found (n ∷ ns) (v ∷ vs) row (suc p) d long before h e =
     let there : nat_eq n row ≡ false = grind (arith, nat_tests) in
     ap (λ (b : Bool). cond b (Some v) (value_at row (zip ns vs))) there ∙ value_found ns vs row p d (omega arith) (λ j l. before (suc j) (omega arith)) (omega arith) e
 
-value_missing : {A : Type 0} (ns : List ℕ) (vs : List A) (row : ℕ) → ((j : ℕ) → j < length ns → get_or ns j 0 ≢ row) → value_at row (zip ns vs) ≡ None
+pub value_missing : {A : Type 0} (ns : List ℕ) (vs : List A) (row : ℕ) → ((j : ℕ) → j < length ns → get_or ns j 0 ≢ row) → value_at row (zip ns vs) ≡ None
 value_missing [] vs row none = refl
 value_missing (n ∷ ns) [] row none = refl
 value_missing (n ∷ ns) (v ∷ vs) row none =

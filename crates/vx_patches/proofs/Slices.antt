@@ -141,7 +141,7 @@ place_of_end index i row m h e =
     let all : count_below (row + index.offset) xs ≡ length xs = count_is (row + index.offset) xs (Rising-from_increasing xs i.rising) (length xs) (omega arith) (λ some. omega (arith, i.below)) (λ none. absurd (omega arith)) in
     e ∙ sym all ∙ sym rows
 
--- the place of row 0 is 0
+-- no exception stands before the first row
 pub place_of_start : (index : Index) → IsIndex index → (row : ℕ) → row ≡ 0 → 0 ≡ place_of row (rows_of index)
 place_of_start index i row e =
     let xs = indices_of index in

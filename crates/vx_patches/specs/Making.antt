@@ -1,12 +1,11 @@
 -- The rules of exceptions, in their order.
-use Rattle.std.specs.Prelude.{ℕ, ◌+◌, ◌/◌, ◌%◌, ◌≡◌, Bool, not, cond, nat_le, nat_eq, List, [], ◌∷◌, ◌++◌, length, Option, Some, None}
-use Rattle.vx_rows.specs.declared.error.ColumnError.{ColumnError}
-use Rattle.vx_rows.specs.declared.error.ColumnError.TheVariants.{Malformed}
+use Rattle.std.specs.Prelude.{ℕ, ◌+◌, ◌/◌, ◌%◌, Bool, not, nat_le, nat_eq, List, [], ◌∷◌, ◌++◌, length, Option, Some, None}
 use Rattle.vx_rows.specs.declared.error.Rule.{Rule}
 use Rattle.vx_rows.specs.declared.error.Rule.TheVariants.{TooLong, NoExceptions, IndexType, IndexOrder, IndexBelowOffset, IndexPastEnd, ValueCount, ChunkOffsetType, ChunkOffsetCount, ChunkOffsetWrong}
 use Rattle.vx_base.specs.Column.{Flat}
 use Rattle.vx_base.specs.Numbers.{numbers_of, is_unsigned}
 use Rattle.vx_base.specs.Checks.{strictly_increasing, all_within, counts_below}
+use Rattle.vx_base.specs.Rules.{first_broken}
 use Rattle.vx_patches.specs.Places.{Index, chunks_over}
 
 -- ---- each rule: true where it is broken
@@ -48,10 +47,6 @@ wrong_counts offset indices offsets = not (counts_below (offset / 1024) (numbers
 
 -- ---- the first one that is broken
 
-abbrev pub first_broken : List (Rule × Bool) → Option Rule
-first_broken [] = None
-first_broken (rule ∷ rules) = cond rule.1 (Some rule.0) (first_broken rules)
-
 abbrev pub index_rules : ℕ → ℕ → Flat → List (Rule × Bool)
 index_rules len offset indices =
     (TooLong, too_long len offset) ∷ (NoExceptions, no_exceptions indices) ∷ (IndexType, wrong_type indices) ∷ (IndexOrder, out_of_order indices)
@@ -63,7 +58,15 @@ chunk_rules len offset indices None = []
 chunk_rules len offset indices (Some offsets) =
     (ChunkOffsetType, wrong_type offsets) ∷ (ChunkOffsetCount, wrong_number len offset offsets) ∷ (ChunkOffsetWrong, wrong_counts offset indices offsets) ∷ []
 
--- the first rule that places of exceptions break
+-- the first rule that the indices break
+abbrev pub places_fault : ℕ → ℕ → Flat → Option Rule
+places_fault len offset indices = first_broken (index_rules len offset indices)
+
+-- the first rule that the chunk offsets break
+abbrev pub chunk_fault : ℕ → ℕ → Flat → Option Flat → Option Rule
+chunk_fault len offset indices offsets = first_broken (chunk_rules len offset indices offsets)
+
+-- the first rule that places of exceptions break: of the indices, or else of the chunk offsets
 abbrev pub index_fault : ℕ → ℕ → Flat → Option Flat → Option Rule
 index_fault len offset indices offsets = first_broken (index_rules len offset indices ++ chunk_rules len offset indices offsets)
 
@@ -72,10 +75,6 @@ abbrev pub patches_fault : ℕ → ℕ → Flat → Flat → Option Flat → Opt
 patches_fault len offset indices values offsets =
     first_broken (index_rules len offset indices ++ ((ValueCount, differ_in_number values indices) ∷ chunk_rules len offset indices offsets))
 
--- a refusal names that rule, at no part
-abbrev pub Refuses : Option Rule → ColumnError → Type 0
-Refuses None e = ⊥
-Refuses (Some rule) e = e ≡ Malformed [] rule
-
+-- places as they are made, of which nothing is cut away
 abbrev pub made : ℕ → ℕ → Flat → Option Flat → Index
 made len offset indices offsets = record { len = len; offset = offset; indices = indices; chunk_offsets = offsets; within = 0 }

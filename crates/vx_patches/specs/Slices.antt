@@ -1,9 +1,7 @@
 -- What is left of exceptions in a range of rows.
-use Rattle.std.specs.Prelude.{ℕ, ◌+◌, ◌-◌, ◌/◌, ◌%◌, ◌≡◌, ◌≤◌, ◌<◌, ◌⊎◌, Bool, ◌&&◌, nat_le, nat_lt, cond, ◌==◌, List, [], map, slice_index, Option, Some, None}
+use Rattle.std.specs.Prelude.{ℕ, ◌+◌, ◌-◌, ◌/◌, ◌%◌, ◌≡◌, Bool, ◌&&◌, nat_le, nat_lt, List, [], map, slice_index, Option, Some, None}
 use Rattle.std.specs.List.{filter, slice_range}
 use Rattle.std.specs.declared.ops.Range.{Range}
-use Rattle.vx_rows.specs.declared.error.ColumnError.{ColumnError}
-use Rattle.vx_rows.specs.declared.error.ColumnError.TheVariants.{OutOfMemory, BadRange, OutOfBounds}
 use Rattle.vx_base.specs.Column.{Flat, flat}
 use Rattle.vx_base.specs.Numbers.{numbers_of}
 use Rattle.vx_base.specs.Checks.{count_below}
@@ -73,10 +71,6 @@ abbrev pub IsWhole : Index → Option (Index × Range ℕ) → Type 0
 IsWhole index None = ⊥
 IsWhole index (Some kept) = kept.0 ≡ index
 
--- how many ends of a slice are cut: the front unless it starts at 0, the back unless it ends at the length
-abbrev pub ends_cut : ℕ → ℕ → ℕ → ℕ
-ends_cut start end len = cond (start == 0) 0 1 + cond (end == len) 0 1
-
 -- two entries are read to cut the front of chunk offsets
 abbrev pub front_reads : Option Flat → ℕ
 front_reads (Some offsets) = 2
@@ -85,8 +79,3 @@ front_reads None = 0
 -- what a cut end raises the steps by, at most: 27 with chunk offsets, and else a search
 abbrev pub cut_cost : Index → ℕ
 cut_cost index = search_cost index + front_reads index.chunk_offsets
-
--- why a slice is refused
-abbrev pub SliceCause : ℕ → ℕ → ℕ → ColumnError → Type 0
-SliceCause len start end e =
-    (e ≡ OutOfMemory) ⊎ (((e ≡ BadRange start end) × (end < start)) ⊎ ((e ≡ OutOfBounds end len) × (start ≤ end) × (len < end)))

@@ -1,11 +1,13 @@
 //! Where exceptions stand.
-ghost use Rattle.std.specs.Prelude.{◌≡◌, ◌≢◌, ◌+◌, ◌-◌, ◌*◌, ◌<◌, ◌≤◌, ◌==◌, cond, length, [], IfOk, OnOk, IfErr, IsOkUnless};
+ghost use Rattle.std.specs.Prelude.{◌≡◌, ◌≢◌, ◌+◌, ◌-◌, ◌*◌, ◌<◌, ◌≤◌, ◌==◌, cond, length, [], None, IfOk, OnOk, IfErr, IsOkUnless};
 ghost use Rattle.vx_rows.specs.declared.error.ColumnError.TheVariants.{OutOfMemory, Malformed};
 ghost use Rattle.vx_search.specs.Places.{search_bound};
 ghost use Rattle.vx_patches.specs.Places.{IsIndex, indices_of, rows_of, within_chunk};
-ghost use Rattle.vx_patches.specs.Making.{index_fault, made, Refuses};
+ghost use Rattle.vx_base.specs.Ranges.{ends_cut, SliceCause};
+ghost use Rattle.vx_base.specs.Rules.{Refuses};
+ghost use Rattle.vx_patches.specs.Making.{index_fault, chunk_fault, made};
 ghost use Rattle.vx_patches.specs.Search.{IsBetween, place_among, offset_reads, comparisons, search_cost};
-ghost use Rattle.vx_patches.specs.Slices.{place_of, IsSliceOf, IsKept, IsWhole, SliceCause, ends_cut, front_reads, cut_cost};
+ghost use Rattle.vx_patches.specs.Slices.{place_of, IsSliceOf, IsKept, IsWhole, front_reads, cut_cost};
 
 use crate::rules;
 use crate::search::{chunk_places, cut_within, search_between};
@@ -55,10 +57,40 @@ impl PatchIndex {
         ensures ok { IfOk result (λ p. p ≡ made array_len offset indices chunk_offsets) }
         ensures sound { IfOk result IsIndex }
         ensures err { IfErr result (Refuses (index_fault array_len offset indices chunk_offsets)) }
+        ensures clean { OnOk result (index_fault array_len offset indices chunk_offsets ≡ None) }
     {
         if let Some(rule) = rules::index_fault(array_len, offset, &indices) {
             return Err(malformed(alloc, rule));
         }
+        let places = PatchIndex {
+            array_len,
+            offset,
+            indices,
+            chunk_offsets: None,
+            within: 0,
+        };
+        places.with_chunk_offsets(alloc, chunk_offsets)
+    }
+
+    /// The same indices with these chunk offsets in place of what chunk offsets there were. Refuses `Malformed` by the
+    /// first rule that they break, and takes no memory. For a maker with rules of its own, which are to be tried behind
+    /// those of the indices: `try_new` without chunk offsets, then its rules, then this.
+    pub fn with_chunk_offsets(
+        self,
+        alloc: Global,
+        chunk_offsets: Option<FlatColumn>,
+    ) -> Res<PatchIndex>
+        ensures ok { IfOk result (λ p. p ≡ made self.len self.offset self.indices chunk_offsets) }
+        ensures sound { IfOk result IsIndex }
+        ensures err { IfErr result (Refuses (chunk_fault self.len self.offset self.indices chunk_offsets)) }
+        ensures clean { OnOk result (chunk_fault self.len self.offset self.indices chunk_offsets ≡ None) }
+    {
+        let PatchIndex {
+            array_len,
+            offset,
+            indices,
+            ..
+        } = self;
         if let Some(rule) = rules::chunk_fault(array_len, offset, &indices, &chunk_offsets) {
             return Err(malformed(alloc, rule));
         }
@@ -68,6 +100,20 @@ impl PatchIndex {
             indices,
             chunk_offsets,
             within: 0,
+        })
+    }
+
+    /// Another handle on the same places; copies no row.
+    pub fn share(&self) -> Res<PatchIndex>
+        ensures ok { IfOk result (λ other. other ≡ self.now) }
+        ensures err { IsOkUnless result OutOfMemory }
+    {
+        Ok(PatchIndex {
+            array_len: self.array_len,
+            offset: self.offset,
+            indices: self.indices.share()?,
+            chunk_offsets: share_offsets(&self.chunk_offsets)?,
+            within: self.within,
         })
     }
 
@@ -185,7 +231,7 @@ impl PatchIndex {
         Ok(Some((part, first..last)))
     }
 
-    /// The place of a slice's first row. That of row 0 isn't searched.
+    /// The place of a slice's first row. A slice from the first row on costs no search.
     fn front<L: Ledger>(&self, start: usize, steps: &mut Steps<L>) -> usize
         ensures place { result ≡ place_of start (rows_of self.now) }
         ensures rise { steps.new ≤ steps.old + cond (start == 0) 0 1 * search_cost self.now }
@@ -253,6 +299,17 @@ impl PatchIndex {
             chunk_offsets: Some(chunk_offsets),
             within,
         })
+    }
+}
+
+/// Another handle on the same chunk offsets, where there are some.
+fn share_offsets(chunk_offsets: &Option<FlatColumn>) -> Res<Option<FlatColumn>>
+    ensures ok { IfOk result (λ other. other ≡ chunk_offsets.now) }
+    ensures err { IsOkUnless result OutOfMemory }
+{
+    match chunk_offsets {
+        Some(offsets) => Ok(Some(offsets.share()?)),
+        None => Ok(None),
     }
 }
 

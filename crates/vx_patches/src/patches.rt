@@ -1,16 +1,17 @@
 //! Exceptions: rows and their values.
-ghost use Rattle.std.specs.Prelude.{◌≡◌, ◌+◌, ◌-◌, ◌*◌, ◌<◌, ◌≤◌, length, slice_get, slice_index, Some, IfOk, OnOk, IsOk, IfErr, IsOkUnless, IsTrue, IsFalse};
+ghost use Rattle.std.specs.Prelude.{◌≡◌, ◌+◌, ◌-◌, ◌*◌, ◌<◌, ◌≤◌, length, slice_get, slice_index, Some, None, IfOk, OnOk, IsOk, IfErr, IsOkUnless, IsTrue, IsFalse};
 ghost use Rattle.vx_rows.specs.declared.error.ColumnError.TheVariants.{OutOfMemory};
 ghost use Rattle.vx_rows.specs.Sizes.{type_takes_memory};
 ghost use Rattle.vx_search.specs.Numbers.{ptype_of};
 ghost use Rattle.vx_patches.specs.Places.{IsIndex, indices_of, rows_of, within_chunk};
-ghost use Rattle.vx_patches.specs.Making.{patches_fault, made, Refuses};
+ghost use Rattle.vx_base.specs.Ranges.{ends_cut, SliceCause};
+ghost use Rattle.vx_base.specs.Rules.{Refuses};
+ghost use Rattle.vx_patches.specs.Making.{patches_fault, made};
 ghost use Rattle.vx_patches.specs.Search.{place_among, search_cost};
-ghost use Rattle.vx_patches.specs.Slices.{SliceCause, ends_cut, cut_cost};
+ghost use Rattle.vx_patches.specs.Slices.{cut_cost};
 ghost use Rattle.vx_patches.specs.Pairs.{overlay, IsOverlay, pairs_of, firsts, value_at, IsPart, IsAll, IsEntry, EntryCause};
 
 use crate::index::{PatchIndex, malformed};
-use crate::rules;
 use crate::search::number_at;
 use std::alloc::Global;
 use std::marker::Model;
@@ -53,14 +54,13 @@ impl Patches {
         ensures ok { IfOk result (λ p. p ≡ overlay (made array_len offset indices chunk_offsets) values) }
         ensures sound { IfOk result IsOverlay }
         ensures err { IfErr result (Refuses (patches_fault array_len offset indices values chunk_offsets)) }
+        ensures clean { OnOk result (patches_fault array_len offset indices values chunk_offsets ≡ None) }
     {
-        if let Some(rule) = rules::index_fault(array_len, offset, &indices) {
-            return Err(malformed(alloc, rule));
-        }
-        if values.len() != indices.len() {
+        let places = PatchIndex::try_new(alloc, array_len, offset, indices, None)?;
+        if values.len() != places.num_patches() {
             return Err(malformed(alloc, Rule::ValueCount));
         }
-        let index = PatchIndex::try_new(alloc, array_len, offset, indices, chunk_offsets)?;
+        let index = places.with_chunk_offsets(alloc, chunk_offsets)?;
         Ok(Patches { index, values })
     }
 

@@ -1,7 +1,8 @@
 //! The rules that exceptions keep. Each check answers the first one that is broken.
 ghost use Rattle.std.specs.Prelude.{◌≡◌, ◌<◌, ◌+◌, ◌^◌, length, None, IsTrue};
 ghost use Rattle.vx_base.specs.Numbers as spec;
-ghost use Rattle.vx_patches.specs.Making.{first_broken, index_rules, chunk_rules};
+ghost use Rattle.vx_base.specs.Rules.{first_broken};
+ghost use Rattle.vx_patches.specs.Making.{index_rules, chunk_rules};
 
 use crate::index::PATCH_CHUNK_SIZE;
 use vx_base::checks::{all_within, counts_below, strictly_increasing};
@@ -21,6 +22,7 @@ fn is_unsigned(dtype: &DType) -> bool
 }
 
 /// The first rule that the indices break.
+#[tactic(auto, unfolding(vx_base::specs::Rules::first_broken))]
 pub(crate) fn index_fault(array_len: usize, offset: usize, indices: &FlatColumn) -> Option<Rule>
     ensures { result ≡ first_broken (index_rules array_len offset indices.now) }
 {
@@ -43,6 +45,7 @@ pub(crate) fn index_fault(array_len: usize, offset: usize, indices: &FlatColumn)
 }
 
 /// The first rule that the chunk offsets break, for indices that break none.
+#[tactic(auto, unfolding(vx_base::specs::Rules::first_broken))]
 pub(crate) fn chunk_fault(
     array_len: usize,
     offset: usize,

@@ -1,7 +1,6 @@
 //! Columns and exceptions that the tests share.
 mod reads;
 mod rules;
-mod slices;
 
 use crate::{PatchIndex, Patches};
 use std::alloc::Global;

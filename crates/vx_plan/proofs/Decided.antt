@@ -1,9 +1,13 @@
--- Whether two types are equal can be decided, since types have codes.
-use Rattle.std.proofs.Common.{◌≡◌, ◌⊎◌, inl, inr, List, [], ◌∷◌, ap, refl}
+-- Whether two types are equal, or alike, can be decided, since types have codes.
+use Rattle.std.proofs.Common.{◌≡◌, ◌⊎◌, inl, inr, List, [], ◌∷◌, ap, refl, sym, ◌∙◌}
 use Rattle.std.specs.List.{AllByRecursion}
 use Rattle.std.proofs.lemmas.Bool.{cases_eq}
+use Rattle.std.proofs.lemmas.List.Elements.{All-from_recursion, recursion_from_All}
+use Rattle.vx_rows.specs.Types.{AlikeTypes, layer_with, with_nullability}
+use Rattle.vx_rows.specs.declared.kinds.Nullability.TheVariants.{NonNullable}
+use Rattle.vx_column.specs.Kinds.{AreAlike}
 use base.Stored.{Gv, gnil, gnum, gcons, num}
-use Rattle.vx_rows.specs.declared.dtype.DType.{DType}
+use Rattle.vx_rows.specs.declared.dtype.DType.{DType, out-DType, roll-DType, out-roll-DType}
 use Rattle.vx_rows.specs.contracts.dtype.DType as dtype_row
 
 abbrev front : Gv → Gv
@@ -16,7 +20,7 @@ back gnil = gnil
 back (gnum n) = gnil
 back (gcons a b) = b
 
-abbrev Decided : Type 0 → Type 0
+abbrev pub Decided : Type 0 → Type 0
 Decided A = A ⊎ (A → ⊥)
 
 code_decided : (a b : Gv) → Decided (a ≡ b)
@@ -49,3 +53,19 @@ all_decided P d (x ∷ xs) = both (d x) (all_decided P d xs)
     both (inl p) (inl q) = inl (p, q)
     both (inr apart) q = inr (λ h. apart h.0)
     both (inl p) (inr apart) = inr (λ h. apart h.1)
+
+-- two types are alike where they are equal without their outermost nullability
+pub alike_decided : (s t : DType) → Decided (AlikeTypes s t)
+alike_decided s t = by (types_decided (with_nullability s NonNullable) (with_nullability t NonNullable))
+  where
+    by : Decided (with_nullability s NonNullable ≡ with_nullability t NonNullable) → Decided (AlikeTypes s t)
+    by (inl same) = inl (sym (out-roll-DType (layer_with NonNullable (out-DType s))) ∙ ap out-DType same ∙ out-roll-DType (layer_with NonNullable (out-DType t)))
+    by (inr apart) = inr (λ e. apart (ap roll-DType e))
+
+pub all_alike_decided : (ts : List DType) → Decided (AreAlike ts)
+all_alike_decided [] = inl tt
+all_alike_decided (t ∷ ts) = by (all_decided (λ s. AlikeTypes s t) (λ s. alike_decided s t) ts)
+  where
+    by : Decided (AllByRecursion (λ s. AlikeTypes s t) ts) → Decided (AreAlike (t ∷ ts))
+    by (inl h) = inl (All-from_recursion (λ s. AlikeTypes s t) ts h)
+    by (inr apart) = inr (λ all. apart (recursion_from_All (λ s. AlikeTypes s t) ts all))

@@ -1,5 +1,5 @@
 -- From the first column to the parts.
-use Rattle.std.proofs.Common.{◌≡◌, ◌⊎◌, inl, inr, ℕ, ◌*◌, ◌≤◌, ◌<◌, List, [], ◌∷◌, length, get_or, sym, ◌∙◌, ap, subst, arith, IsTrue}
+use Rattle.std.proofs.Common.{◌≡◌, ◌⊎◌, inl, inr, ℕ, ◌+◌, ◌*◌, ◌≤◌, ◌<◌, List, [], ◌∷◌, length, get_or, sym, ◌∙◌, ap, subst, arith, IsTrue}
 use Rattle.std.proofs.Math.Nat.{mul-le-mul_left}
 use Rattle.std.proofs.lemmas.List.Elements.{All-from_recursion}
 use Rattle.vx_rows.specs.declared.error.ColumnError.{ColumnError}
@@ -11,7 +11,7 @@ use Rattle.vx_plan.specs.declared.part.Part.{Part}
 use Rattle.vx_plan.specs.declared.step.Step.{Step}
 use Rattle.vx_plan.specs.declared.page.Answer.{Answer}
 use Rattle.vx_plan.specs.Answered.{CostsNoMore}
-use Rattle.vx_plan.specs.Parts.{part_flat, IsClean, IsOpened, AreOpened, PartsCause, IsFirst, IsOpenError}
+use Rattle.vx_plan.specs.Parts.{part_flat, open_cost, IsClean, IsOpened, AreOpened, PartsCause, IsFirst, IsOpenError}
 use Rattle.vx_plan.specs.Plans.{Reached, Reaches, run_rows, IsRunError, IsPlanError, plan_cost, plan_bound, rows_bound}
 use Rattle.vx_plan.proofs.Opened.{parts_clean}
 use Rattle.vx_plan.proofs.Faults.{no_fault_among}
@@ -44,9 +44,14 @@ first_error ps x plan f e (inl memory) = inl memory
 first_error [] x plan f e (inr error) = absurd f
 first_error (p ∷ ps) x plan f e (inr error) = inr (inr (f.1, subst (λ c. IsRunError (run_rows c plan) e) (sym (same_flat p x f.0)) error))
 
-pub first_bound : (ps : List Part) (x : Column) (plan : List Step) → IsFirst ps x → plan_cost (point_cost x) plan ≤ plan_bound ps plan
+-- opening the parts, and then the steps
+pub first_bound : (ps : List Part) (x : Column) (plan : List Step) → IsFirst ps x → open_cost ps + plan_cost (point_cost x) plan ≤ plan_bound ps plan
 first_bound [] x plan f = absurd f
 first_bound (p ∷ ps) x plan f = omega (arith, ap (λ n. plan_cost n plan) f.0.point)
+
+pub open_bound : (ps : List Part) (plan : List Step) → open_cost ps ≤ plan_bound ps plan
+open_bound [] plan = omega arith
+open_bound (p ∷ ps) plan = omega arith
 
 pub first_select : (ps : List Part) (x y : Column) (n : ℕ) → IsFirst ps x → CostsNoMore x y → select_bound y n ≤ rows_bound ps n
 first_select [] x y n f costs = absurd f

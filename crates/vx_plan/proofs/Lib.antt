@@ -1,4 +1,6 @@
+pub mod Parts
 pub mod Opened
+pub mod Refused
 pub mod Decided
 pub mod Faults
 pub mod Runs

@@ -1,90 +1,38 @@
 -- Parts that are opened.
-use Rattle.std.proofs.Common.{◌≡◌, ◌⊎◌, inl, inr, ℕ, suc, ◌+◌, ◌≤◌, ◌<◌, ◌^◌, List, [], ◌∷◌, ◌++◌, map, length, get_or, refl, sym, ◌∙◌, ap, subst, arith, Option, IsTrue, true, replicate}
+use Rattle.std.proofs.Common.{◌≡◌, ℕ, suc, ◌+◌, ◌<◌, ◌^◌, List, [], ◌∷◌, ◌++◌, map, length, refl, sym, ◌∙◌, ap, subst, Option, None, IsTrue, true, replicate, ◌&&◌}
 use Rattle.std.proofs.lemmas.Bool.{and_from}
 use Rattle.std.specs.List.{All, AllByRecursion}
-use Rattle.std.proofs.lemmas.List.{length-map, length-append, take_at}
+use Rattle.std.proofs.lemmas.List.{length-map}
 use Rattle.std.proofs.lemmas.List.Elements.{All-from_recursion, recursion_from_All}
 use Rattle.vx_rows.specs.Fits.{row_fits}
-use Rattle.vx_base.specs.Column.{Flat, flat, RefusesMisfit}
 use Rattle.vx_rows.specs.declared.dtype.DType.{DType}
 use Rattle.vx_rows.specs.declared.value.Value.{Value}
-use Rattle.vx_rows.specs.declared.error.ColumnError.{ColumnError}
-use Rattle.vx_rows.specs.declared.error.ColumnError.TheVariants.{OutOfMemory, Malformed}
-use Rattle.vx_rows.specs.declared.error.Rule.TheVariants.{RowType, TooLong, ChunkType}
+use Rattle.vx_base.specs.Column.{Flat, flat}
 use Rattle.vx_search.specs.Places.{search_bound}
 use Rattle.vx_chunks.specs.Bounds.{total}
-use Rattle.vx_column.specs.Columns.{Rows, joined, greatest, rows_of, len_of, IsOf, IsSound, point_cost, lane_cost, is_plain, all_true, ChunksCause}
+use Rattle.vx_patches.specs.Making.{made}
+use Rattle.vx_patches.specs.Places.{Index}
+use Rattle.vx_patches.specs.Search.{search_cost}
+use Rattle.vx_lanes.specs.Layouts.{layout, overlaid}
+use Rattle.vx_lanes.specs.declared.layout.Layout.{Layout}
+use Rattle.vx_interleave.specs.Selections.{Selection, selection, pairs_of}
+use Rattle.vx_column.specs.Kinds.{woven_type}
+use Rattle.vx_column.specs.Faults.{Fault, IsLanesFault, IsExceptionsFault, IsWovenFault}
+use Rattle.vx_column.specs.Columns.{Rows, joined, excepted, woven, greatest, lane_reads, lane_entries, rows_of, type_of, len_of, IsOf, IsSound, point_cost, lane_cost, is_plain, all_true, inner_of, lanes_of, base_of, values_of, index_of, woven_of, selectors_of}
 use Rattle.vx_column.specs.declared.column.Chunked.{Chunked}
+use Rattle.vx_column.specs.declared.patched.Patched.{Patched}
+use Rattle.vx_column.specs.declared.excepted.Excepted.{Excepted}
+use Rattle.vx_column.specs.declared.interleave.Interleave.{Interleave}
 use Rattle.vx_column.specs.declared.column.Column.{Column}
 use Rattle.vx_column.specs.declared.column.Column.TheVariants as column
-use Rattle.vx_column.proofs.Layers.{rows_flat, point_flat, type_flat, sound_flat, rows_chunked, type_chunked, lane_flat, lane_chunked, plain_flat, plain_chunked}
+use Rattle.vx_column.proofs.Layers.{sound_flat, woven_here}
+use Rattle.vx_column.proofs.Layers as layer
 use Rattle.vx_column.proofs.Cuts.{point_cost_is}
-use Rattle.vx_plan.specs.Parts.{type_step, part_type, rows_step, part_rows, part_len, point_step, part_point_cost, lane_step, part_lane_cost, IsPartOf, IsCleanLayer, IsClean, OwnFault, At, Under, FaultAt, IsFaultOf, IsFaultIn, Within, IsOpened, AreOpened}
-use Rattle.vx_plan.specs.declared.part.Part.{Part, out-Part}
-use Rattle.vx_plan.specs.declared.part.Part.TheOpen.{Part-F}
-use Rattle.vx_plan.specs.declared.part.Part.TheVariants.{rolls-Flat, rolls-Constant, rolls-Chunked, outs-Constant, outs-Chunked}
+use Rattle.vx_plan.specs.Parts.{part_type, part_rows, part_len, part_point_cost, part_lane_cost, IsPartOf, IsClean, IsOpened, AreOpened}
+use Rattle.vx_plan.specs.declared.part.Part.{Part}
 use Rattle.vx_plan.specs.declared.part.Part.TheVariants as part
-use Rattle.vx_plan.specs.declared.part.Part.TheFolds.{fold-roll-Part, every_made-Part}
-
-pub rows_constant : (t : DType) (r : Option Value) (n : ℕ) → part_rows (part.Constant t r n) ≡ replicate n r
-rows_constant t r n = ap part_rows (sym (rolls-Constant t r n)) ∙ fold-roll-Part Rows rows_step (Part-F.Constant t r n)
-
-pub part_rows_flat : (c : Flat) → part_rows (part.Flat c) ≡ c.rows
-part_rows_flat c = ap part_rows (sym (rolls-Flat c)) ∙ fold-roll-Part Rows rows_step (Part-F.Flat c)
-
-pub part_rows_chunked : (t : DType) (ps : List Part) → part_rows (part.Chunked t ps) ≡ joined (map part_rows ps)
-part_rows_chunked t ps = ap part_rows (sym (rolls-Chunked t ps)) ∙ fold-roll-Part Rows rows_step (Part-F.Chunked t ps)
-
-type_constant : (t : DType) (r : Option Value) (n : ℕ) → part_type (part.Constant t r n) ≡ t
-type_constant t r n = ap part_type (sym (rolls-Constant t r n)) ∙ fold-roll-Part DType type_step (Part-F.Constant t r n)
-
-part_type_flat : (c : Flat) → part_type (part.Flat c) ≡ c.dtype
-part_type_flat c = ap part_type (sym (rolls-Flat c)) ∙ fold-roll-Part DType type_step (Part-F.Flat c)
-
-part_type_chunked : (t : DType) (ps : List Part) → part_type (part.Chunked t ps) ≡ t
-part_type_chunked t ps = ap part_type (sym (rolls-Chunked t ps)) ∙ fold-roll-Part DType type_step (Part-F.Chunked t ps)
-
-point_constant : (t : DType) (r : Option Value) (n : ℕ) → part_point_cost (part.Constant t r n) ≡ 1
-point_constant t r n = ap part_point_cost (sym (rolls-Constant t r n)) ∙ fold-roll-Part ℕ point_step (Part-F.Constant t r n)
-
-part_point_flat : (c : Flat) → part_point_cost (part.Flat c) ≡ 1
-part_point_flat c = ap part_point_cost (sym (rolls-Flat c)) ∙ fold-roll-Part ℕ point_step (Part-F.Flat c)
-
-part_point_chunked : (t : DType) (ps : List Part) → part_point_cost (part.Chunked t ps) ≡ search_bound (length ps + 1) + greatest (map part_point_cost ps)
-part_point_chunked t ps = ap part_point_cost (sym (rolls-Chunked t ps)) ∙ fold-roll-Part ℕ point_step (Part-F.Chunked t ps)
-    ∙ ap (λ n. search_bound (n + 1) + greatest (map part_point_cost ps)) (length-map ps part_point_cost)
-
-lane_constant : (t : DType) (r : Option Value) (n : ℕ) → part_lane_cost (part.Constant t r n) ≡ 0
-lane_constant t r n = ap part_lane_cost (sym (rolls-Constant t r n)) ∙ fold-roll-Part ℕ lane_step (Part-F.Constant t r n)
-
-part_lane_flat : (c : Flat) → part_lane_cost (part.Flat c) ≡ 0
-part_lane_flat c = ap part_lane_cost (sym (rolls-Flat c)) ∙ fold-roll-Part ℕ lane_step (Part-F.Flat c)
-
-part_lane_chunked : (t : DType) (ps : List Part) → part_lane_cost (part.Chunked t ps) ≡ total (map part_lane_cost ps)
-part_lane_chunked t ps = ap part_lane_cost (sym (rolls-Chunked t ps)) ∙ fold-roll-Part ℕ lane_step (Part-F.Chunked t ps)
-
--- clean parts
-pub clean_flat : (c : Flat) → IsClean (part.Flat c)
-clean_flat c = subst IsClean (rolls-Flat c) (every_made-Part IsCleanLayer (Part-F.Flat c) (Part-F.Flat c) refl tt)
-
-pub clean_constant : (t : DType) (r : Option Value) (n : ℕ) → IsTrue (row_fits t r) → IsClean (part.Constant t r n)
-clean_constant t r n h = subst IsClean (rolls-Constant t r n) (every_made-Part IsCleanLayer (Part-F.Constant t r n) (Part-F.Constant t r n) refl h)
-
-abbrev Known : Type 0
-Known = (p : Part) × IsClean p
-
-with_proofs : (xs : List Part) → AllByRecursion IsClean xs → List Known
-with_proofs [] s = []
-with_proofs (x ∷ xs) s = (x, s.0) ∷ with_proofs xs s.1
-
-with_proofs_of : (xs : List Part) (s : AllByRecursion IsClean xs) → map (λ e. e.0) (with_proofs xs s) ≡ xs
-unfolding with_proofs
-with_proofs_of [] s = refl
-with_proofs_of (x ∷ xs) s = ap (λ ys. x ∷ ys) (with_proofs_of xs s.1)
-
-pub clean_chunked : (t : DType) (ps : List Part) → AllByRecursion IsClean ps → total (map part_len ps) < 2 ^ 64 → All (IsPartOf t) ps → IsClean (part.Chunked t ps)
-clean_chunked t ps s h k =
-    subst IsClean (rolls-Chunked t ps) (every_made-Part IsCleanLayer (Part-F.Chunked t ps) (Part-F.Chunked t (with_proofs ps s)) (ap (λ xs. Part-F.Chunked t xs) (with_proofs_of ps s)) (h, k))
+use Rattle.vx_plan.proofs.Parts.{clean_flat, clean_constant, clean_chunked, clean_lanes, clean_excepted, clean_interleaved}
+use Rattle.vx_plan.proofs.Parts as its
 
 -- lists of parts and their columns
 pub opened_push : (ps : List Part) (cs : List Column) (p : Part) (c : Column) → AreOpened ps cs → IsOpened p c → AreOpened (ps ++ p ∷ []) (cs ++ c ∷ [])
@@ -106,8 +54,20 @@ opened_length [] (c ∷ cs) a = absurd a
 opened_length (p ∷ ps) [] a = absurd a
 opened_length (p ∷ ps) (c ∷ cs) a = ap suc (opened_length ps cs a.1)
 
-lens_same : (ps : List Part) (cs : List Column) → AreOpened ps cs → map len_of cs ≡ map part_len ps
+pub lens_same : (ps : List Part) (cs : List Column) → AreOpened ps cs → map len_of cs ≡ map part_len ps
 lens_same = same_of part_len len_of (λ p c o. ap length o.rows)
+
+pub types_same : (ps : List Part) (cs : List Column) → AreOpened ps cs → map type_of cs ≡ map part_type ps
+types_same = same_of part_type type_of (λ p c o. o.dtype)
+
+rows_same : (ps : List Part) (cs : List Column) → AreOpened ps cs → map rows_of cs ≡ map part_rows ps
+rows_same = same_of part_rows rows_of (λ p c o. o.rows)
+
+points_same : (ps : List Part) (cs : List Column) → AreOpened ps cs → map point_cost cs ≡ map part_point_cost ps
+points_same = same_of part_point_cost point_cost (λ p c o. o.point)
+
+lanes_same : (ps : List Part) (cs : List Column) → AreOpened ps cs → map lane_cost cs ≡ map part_lane_cost ps
+lanes_same = same_of part_lane_cost lane_cost (λ p c o. o.lanes)
 
 pub parts_clean : (ps : List Part) (cs : List Column) → AreOpened ps cs → AllByRecursion IsClean ps
 parts_clean [] [] a = tt
@@ -136,109 +96,116 @@ types_down t [] (c ∷ cs) a s = absurd a
 types_down t (p ∷ ps) [] a s = absurd a
 types_down t (p ∷ ps) (c ∷ cs) a s = (sym a.0.dtype ∙ s.0, types_down t ps cs a.1 s.1)
 
-types_up : (t : DType) (ps : List Part) (cs : List Column) → AreOpened ps cs → AllByRecursion (IsPartOf t) ps → AllByRecursion (IsOf t) cs
+pub types_up : (t : DType) (ps : List Part) (cs : List Column) → AreOpened ps cs → AllByRecursion (IsPartOf t) ps → AllByRecursion (IsOf t) cs
 types_up t [] [] a s = tt
 types_up t [] (c ∷ cs) a s = absurd a
 types_up t (p ∷ ps) [] a s = absurd a
 types_up t (p ∷ ps) (c ∷ cs) a s = (a.0.dtype ∙ s.0, types_up t ps cs a.1 s.1)
+
+-- what is wrong over columns is wrong over their parts
+pub lanes_down : (p : Part) (n o : ℕ) (lo is vs : Flat) (c : Column) (fault : Option Fault) → IsOpened p c → IsLanesFault (type_of c) (len_of c) n o lo is vs fault
+    → IsLanesFault (part_type p) (part_len p) n o lo is vs fault
+lanes_down p n o lo is vs c fault opened h =
+    subst (λ t. IsLanesFault t (part_len p) n o lo is vs fault) opened.dtype (subst (λ m. IsLanesFault (type_of c) m n o lo is vs fault) (ap length opened.rows) h)
+
+pub exceptions_down : (b : Part) (o : ℕ) (is : Flat) (v : Part) (co : Option Flat) (c d : Column) (fault : Option Fault) → IsOpened b c → IsOpened v d
+    → IsExceptionsFault (type_of c) (len_of c) o is (type_of d) (len_of d) co fault → IsExceptionsFault (part_type b) (part_len b) o is (part_type v) (part_len v) co fault
+exceptions_down b o is v co c d fault base values h =
+    subst (λ t. IsExceptionsFault t (part_len b) o is (part_type v) (part_len v) co fault) base.dtype
+    (subst (λ m. IsExceptionsFault (type_of c) m o is (part_type v) (part_len v) co fault) (ap length base.rows)
+    (subst (λ t. IsExceptionsFault (type_of c) (len_of c) o is t (part_len v) co fault) values.dtype
+    (subst (λ m. IsExceptionsFault (type_of c) (len_of c) o is (type_of d) m co fault) (ap length values.rows) h)))
+
+pub woven_down : (ps : List Part) (ai ri : Flat) (cs : List Column) (fault : Option Fault) → AreOpened ps cs → IsWovenFault (map type_of cs) (map len_of cs) ai ri fault
+    → IsWovenFault (map part_type ps) (map part_len ps) ai ri fault
+woven_down ps ai ri cs fault o h =
+    subst (λ ts. IsWovenFault ts (map part_len ps) ai ri fault) (types_same ps cs o) (subst (λ ns. IsWovenFault (map type_of cs) ns ai ri fault) (lens_same ps cs o) h)
 
 -- opened parts
 pub opened_flat : (self : Part) (c : Flat) → self ≡ part.Flat c → IsOpened self (column.Flat c)
 opened_flat self c is = subst (λ p. IsOpened p (column.Flat c)) (sym is) (record {
   clean = clean_flat c;
   sound = sound_flat c;
-  dtype = type_flat c ∙ sym (part_type_flat c);
-  rows = rows_flat c ∙ sym (part_rows_flat c);
-  point = point_flat c ∙ sym (part_point_flat c);
-  lanes = lane_flat c ∙ sym (part_lane_flat c);
-  plain = plain_flat c;
+  dtype = layer.type_flat c ∙ sym (its.type_flat c);
+  rows = layer.rows_flat c ∙ sym (its.rows_flat c);
+  point = layer.point_flat c ∙ sym (its.point_flat c);
+  lanes = layer.lane_flat c ∙ sym (its.lane_flat c);
+  plain = layer.plain_flat c;
 })
 
 pub opened_constant : (self : Part) (t : DType) (r : Option Value) (n : ℕ) (c : Flat) → self ≡ part.Constant t r n → c ≡ flat t (replicate n r) → IsTrue (row_fits t r) → IsOpened self (column.Flat c)
 opened_constant self t r n c is e h = subst (λ p. IsOpened p (column.Flat c)) (sym is) (record {
   clean = clean_constant t r n h;
   sound = sound_flat c;
-  dtype = type_flat c ∙ ap (λ x. x.dtype) e ∙ sym (type_constant t r n);
-  rows = rows_flat c ∙ ap (λ x. x.rows) e ∙ sym (rows_constant t r n);
-  point = point_flat c ∙ sym (point_constant t r n);
-  lanes = lane_flat c ∙ sym (lane_constant t r n);
-  plain = plain_flat c;
+  dtype = layer.type_flat c ∙ ap (λ x. x.dtype) e ∙ sym (its.type_constant t r n);
+  rows = layer.rows_flat c ∙ ap (λ x. x.rows) e ∙ sym (its.rows_constant t r n);
+  point = layer.point_flat c ∙ sym (its.point_constant t r n);
+  lanes = layer.lane_flat c ∙ sym (its.lane_constant t r n);
+  plain = layer.plain_flat c;
 })
 
 pub opened_chunked : (self : Part) (t : DType) (ps : List Part) (cs : List Column) (a : Chunked Column) → self ≡ part.Chunked t ps → AreOpened ps cs → (a.chunks ≡ cs) × (a.dtype ≡ t) → IsSound (column.Chunked a) →
     total (map len_of cs) < 2 ^ 64 → All (IsOf t) cs → IsOpened self (column.Chunked a)
 opened_chunked self t ps cs a is o e s fits types = subst (λ p. IsOpened p (column.Chunked a)) (sym is)
-    (let points = same_of part_point_cost point_cost (λ p c o. o.point) ps cs o in
-    let count : length a.chunks ≡ length ps = ap length e.0 ∙ sym (length-map cs point_cost) ∙ ap length points ∙ length-map ps part_point_cost in
+    (let points = points_same ps cs o in
+    let count : length a.chunks ≡ length ps = ap length e.0 ∙ opened_length ps cs o in
     record {
       clean = clean_chunked t ps (parts_clean ps cs o) (subst (λ ns. total ns < 2 ^ 64) (lens_same ps cs o) fits) (All-from_recursion (IsPartOf t) ps (types_down t ps cs o (recursion_from_All (IsOf t) cs types)));
       sound = s;
-      dtype = type_chunked a ∙ e.1 ∙ sym (part_type_chunked t ps);
-      rows = rows_chunked a ∙ ap joined (ap (map rows_of) e.0 ∙ same_of part_rows rows_of (λ p c o. o.rows) ps cs o) ∙ sym (part_rows_chunked t ps);
+      dtype = layer.type_chunked a ∙ e.1 ∙ sym (its.type_chunked t ps);
+      rows = layer.rows_chunked a ∙ ap joined (ap (map rows_of) e.0 ∙ rows_same ps cs o) ∙ sym (its.rows_chunked t ps);
       point = point_cost_is a ∙ ap (λ n. search_bound (n + 1) + greatest (map point_cost a.chunks)) count
-          ∙ ap (λ ns. search_bound (length ps + 1) + greatest ns) (ap (map point_cost) e.0 ∙ points) ∙ sym (part_point_chunked t ps);
-      lanes = lane_chunked a ∙ ap total (ap (map lane_cost) e.0 ∙ same_of part_lane_cost lane_cost (λ p c o. o.lanes) ps cs o) ∙ sym (part_lane_chunked t ps);
-      plain = plain_chunked a ∙ ap (λ xs. all_true (map is_plain xs)) e.0 ∙ all_plain ps cs o;
+          ∙ ap (λ ns. search_bound (length ps + 1) + greatest ns) (ap (map point_cost) e.0 ∙ points) ∙ sym (its.point_chunked t ps);
+      lanes = layer.lane_chunked a ∙ ap total (ap (map lane_cost) e.0 ∙ lanes_same ps cs o) ∙ sym (its.lane_chunked t ps);
+      plain = layer.plain_chunked a ∙ ap (λ xs. all_true (map is_plain xs)) e.0 ∙ all_plain ps cs o;
     })
 
--- faults
-pub fault_constant : (self : Part) (t : DType) (r : Option Value) (n : ℕ) (e : ColumnError) → self ≡ part.Constant t r n → RefusesMisfit (row_fits t r) e → IsFaultOf self e
-fault_constant self t r n e is (inl memory) = inl memory
-fault_constant self t r n e is (inr misfit) =
-    inr ([], RowType, misfit.0, subst (OwnFault RowType) (sym (ap out-Part is ∙ outs-Constant t r n)) (refl, misfit.1))
+pub opened_lanes : (self p : Part) (n o : ℕ) (lo is vs : Flat) (c : Column) (a : Patched Column) → self ≡ part.Lanes p n o lo is vs → IsOpened p c → inner_of a ≡ c →
+    lanes_of a ≡ layout (len_of c) n o lo is vs → IsSound (column.Patched a) → IsLanesFault (type_of c) (len_of c) n o lo is vs None → IsOpened self (column.Patched a)
+opened_lanes self p n o lo is vs c a at opened e l s h = subst (λ x. IsOpened x (column.Patched a)) (sym at)
+    (let len : len_of c ≡ part_len p = ap length opened.rows in
+    let lanes : a.lanes ≡ layout (part_len p) n o lo is vs = l ∙ ap (λ m. layout m n o lo is vs) len in
+    record {
+      clean = clean_lanes p n o lo is vs opened.clean (lanes_down p n o lo is vs c None opened h);
+      sound = s;
+      dtype = layer.type_patched a ∙ ap type_of e ∙ opened.dtype ∙ sym (its.type_lanes p n o lo is vs);
+      rows = layer.rows_patched a ∙ ap (λ (r : Rows). overlaid a.lanes r) (ap rows_of e ∙ opened.rows) ∙ ap (λ (x : Layout). overlaid x (part_rows p)) lanes ∙ sym (its.rows_lanes p n o lo is vs);
+      point = layer.point_patched a ∙ ap (λ k. lane_reads a.lanes.n_lanes + k) (ap point_cost e ∙ opened.point)
+          ∙ ap (λ (x : Layout). lane_reads x.n_lanes + part_point_cost p) lanes ∙ sym (its.point_lanes p n o lo is vs);
+      lanes = layer.lane_patched a ∙ ap (λ k. lane_entries a.lanes + k) (ap lane_cost e ∙ opened.lanes)
+          ∙ ap (λ (x : Layout). lane_entries x + part_lane_cost p) lanes ∙ sym (its.lane_lanes p n o lo is vs);
+      plain = layer.plain_patched a ∙ ap is_plain e ∙ opened.plain;
+    })
 
-pub fault_children : (self : Part) (t : DType) (ps : List Part) (e : ColumnError) → self ≡ part.Chunked t ps → IsFaultIn ps e → IsFaultOf self e
-fault_children self t ps e is (inl memory) = inl memory
-fault_children self t ps e is (inr (k, path, rule, same, at)) =
-    inr (k ∷ path, rule, same, subst (Under (FaultAt path rule) k) (sym (ap out-Part is ∙ outs-Chunked t ps)) at)
+pub opened_excepted : (self b : Part) (o : ℕ) (is : Flat) (v : Part) (co : Option Flat) (c d : Column) (a : Excepted Column) → self ≡ part.Excepted b o is v co → IsOpened b c → IsOpened v d →
+    base_of a ≡ c → values_of a ≡ d → index_of a ≡ made (len_of c) o is co → IsSound (column.Excepted a) → IsExceptionsFault (type_of c) (len_of c) o is (type_of d) (len_of d) co None →
+    IsOpened self (column.Excepted a)
+opened_excepted self b o is v co c d a at base values e f i s h = subst (λ x. IsOpened x (column.Excepted a)) (sym at)
+    (let len : len_of c ≡ part_len b = ap length base.rows in
+    let index : a.index ≡ made (part_len b) o is co = i ∙ ap (λ m. made m o is co) len in
+    record {
+      clean = clean_excepted b o is v co base.clean values.clean (exceptions_down b o is v co c d None base values h);
+      sound = s;
+      dtype = layer.type_excepted a ∙ ap type_of e ∙ base.dtype ∙ sym (its.type_excepted b o is v co);
+      rows = layer.rows_excepted a ∙ ap (λ (r : Rows). excepted a.index r (rows_of a.base)) (ap rows_of f ∙ values.rows) ∙ ap (λ (r : Rows). excepted a.index (part_rows v) r) (ap rows_of e ∙ base.rows)
+          ∙ ap (λ (x : Index). excepted x (part_rows v) (part_rows b)) index ∙ sym (its.rows_excepted b o is v co);
+      point = layer.point_excepted a ∙ ap (λ k. search_cost a.index + (point_cost a.base + k)) (ap point_cost f ∙ values.point) ∙ ap (λ k. search_cost a.index + (k + part_point_cost v)) (ap point_cost e ∙ base.point)
+          ∙ ap (λ (x : Index). search_cost x + (part_point_cost b + part_point_cost v)) index ∙ sym (its.point_excepted b o is v co);
+      lanes = layer.lane_excepted a ∙ ap (λ k. lane_cost a.base + k) (ap lane_cost f ∙ values.lanes) ∙ ap (λ k. k + part_lane_cost v) (ap lane_cost e ∙ base.lanes) ∙ sym (its.lane_excepted b o is v co);
+      plain = layer.plain_excepted a ∙ and_from (is_plain a.base) (is_plain a.values) (ap is_plain e ∙ base.plain) (ap is_plain f ∙ values.plain);
+    })
 
-pub fault_own : (self : Part) (t : DType) (ps : List Part) (cs : List Column) (e : ColumnError) → self ≡ part.Chunked t ps → AreOpened ps cs → ChunksCause t cs e → IsFaultOf self e
-fault_own self t ps cs e is o (inl memory) = inl memory
-fault_own self t ps cs e is o (inr (inl long)) =
-    inr (
-      [],
-      TooLong,
-      long.0,
-      subst (OwnFault TooLong) (sym (ap out-Part is ∙ outs-Chunked t ps))
-          (All-from_recursion IsClean ps (parts_clean ps cs o), inl (refl, subst (λ ns. 2 ^ 64 ≤ total ns) (lens_same ps cs o) long.1)),
-    )
-fault_own self t ps cs e is o (inr (inr typed)) =
-    inr (
-      [],
-      ChunkType,
-      typed.0,
-      subst (OwnFault ChunkType) (sym (ap out-Part is ∙ outs-Chunked t ps)) (
-        All-from_recursion IsClean ps (parts_clean ps cs o),
-        inr (
-          refl,
-          subst (λ ns. total ns < 2 ^ 64) (lens_same ps cs o) typed.1,
-          λ all. typed.2 (All-from_recursion (IsOf t) cs (types_up t ps cs o (recursion_from_All (IsPartOf t) ps all))),
-        ),
-      ),
-    )
-
-get_behind : (ps : List Part) (x : Part) (rest : List Part) (d : Part) → get_or (ps ++ (x ∷ rest)) (length ps) d ≡ x
-get_behind [] x rest d = refl
-get_behind (p ∷ ps) x rest d = get_behind ps x rest d
-
-at_behind : (F : Part → Type 0) (ps : List Part) (x : Part) (rest : List Part) → All IsClean ps → F x → At F (length ps) (ps ++ (x ∷ rest))
-at_behind F ps x rest clean f =
-    (omega (arith, length-append ps (x ∷ rest)), subst (All IsClean) (sym (take_at ps (x ∷ rest) (length ps) refl)) clean, λ d. subst F (sym (get_behind ps x rest d)) f)
-
--- the fault of a part behind clean ones is the first fault of all
-pub fault_in : (ps rest : List Part) (cs : List Column) (x : Part) (parts : List Part) (n : ℕ) (e e' : ColumnError) → ps ++ (x ∷ rest) ≡ parts → AreOpened ps cs → n ≡ length ps →
-    IsFaultOf x e → Within n e e' → IsFaultIn parts e'
-fault_in ps rest cs x parts n e e' all o h (inl memory) w = inl (subst (λ z. Within n z e') memory w)
-fault_in ps rest cs x parts n e e' all o h (inr (path, rule, same, at)) w = told (subst (λ z. Within n z e') same w)
-  where
-    told : (e' ≡ OutOfMemory) ⊎ (e' ≡ Malformed (n ∷ path) rule) → IsFaultIn parts e'
-    told (inl memory) = inl memory
-    told (inr same') =
-        inr (
-          n,
-          path,
-          rule,
-          same',
-          subst (λ qs. At (FaultAt path rule) n qs) all (subst (λ m. At (FaultAt path rule) m (ps ++ (x ∷ rest))) (sym h)
-              (at_behind (FaultAt path rule) ps x rest (All-from_recursion IsClean ps (parts_clean ps cs o)) at)),
-        )
+pub opened_interleaved : (self : Part) (ps : List Part) (ai ri : Flat) (cs : List Column) (a : Interleave Column) → self ≡ part.Interleaved ps ai ri → AreOpened ps cs → woven_of a ≡ cs →
+    selectors_of a ≡ selection ai ri → IsSound (column.Interleave a) → IsWovenFault (map type_of cs) (map len_of cs) ai ri None → IsOpened self (column.Interleave a)
+opened_interleaved self ps ai ri cs a is o e l s h = subst (λ x. IsOpened x (column.Interleave a)) (sym is)
+    (let types : map type_of a.values ≡ map part_type ps = ap (map type_of) e ∙ types_same ps cs o in
+    record {
+      clean = clean_interleaved ps ai ri (parts_clean ps cs o) (woven_down ps ai ri cs None o h);
+      sound = s;
+      dtype = layer.type_interleave a ∙ (woven_here a s).joined ∙ ap woven_type types ∙ sym (its.type_interleaved ps ai ri);
+      rows = layer.rows_interleave a ∙ ap (λ (x : Selection). woven (map rows_of a.values) (pairs_of x)) l ∙ ap (λ (rs : List Rows). woven rs (pairs_of (selection ai ri))) (ap (map rows_of) e ∙ rows_same ps cs o)
+          ∙ sym (its.rows_interleaved ps ai ri);
+      point = layer.point_interleave a ∙ ap (λ ns. 2 + greatest ns) (ap (map point_cost) e ∙ points_same ps cs o) ∙ sym (its.point_interleaved ps ai ri);
+      lanes = layer.lane_interleave a ∙ ap total (ap (map lane_cost) e ∙ lanes_same ps cs o) ∙ sym (its.lane_interleaved ps ai ri);
+      plain = layer.plain_interleave a ∙ ap (λ xs. all_true (map is_plain xs)) e ∙ all_plain ps cs o;
+    })

@@ -6,7 +6,7 @@ use Rattle.std.proofs.Math.Nat.{mul-le-mul, mul-le-mul_left}
 use Rattle.vx_rows.specs.declared.error.ColumnError.{ColumnError}
 use Rattle.vx_rows.specs.declared.error.ColumnError.TheVariants.{OutOfMemory}
 use Rattle.vx_base.specs.Column.{Flat}
-use Rattle.vx_chunks.specs.Bounds.{ends_cut}
+use Rattle.vx_base.specs.Ranges.{ends_cut}
 use Rattle.vx_column.specs.Columns.{Rows}
 use Rattle.vx_column.specs.declared.column.Column.{Column}
 use Rattle.vx_plan.specs.Answered.{CostsNoMore}

@@ -2,7 +2,7 @@
 use Rattle.std.specs.Prelude.{◌≢◌, ◌⊎◌, ◌↔◌, ℕ, List, IsTrue}
 use Rattle.vx_rows.specs.declared.error.ColumnError.{ColumnError}
 use Rattle.vx_rows.specs.declared.error.ColumnError.TheVariants.{OutOfMemory}
-use Rattle.vx_rows.specs.declared.error.Rule.{Rule}
+use Rattle.vx_column.specs.Faults.{Fault}
 use Rattle.vx_base.specs.Column.{Flat}
 use Rattle.vx_plan.specs.declared.part.Part.{Part}
 use Rattle.vx_plan.specs.declared.step.Step.{Step}
@@ -15,9 +15,9 @@ StopsExactly = (number : ℕ) (c : Flat) (step : Step) → IsTrue (stops_at c st
 
 -- the part has a first fault
 abbrev pub IsFaulty : Part → Type 0
-IsFaulty part = (path : List ℕ) × (rule : Rule) × FaultAt path rule part
+IsFaulty part = (path : List ℕ) × (fault : Fault) × FaultAt path fault part
 
--- each part meets its rules or has a first fault, and none does both
+-- each part has what its rules ask for, or has a first fault, and none does both
 abbrev pub CleanOrFaulty : Type 0
 CleanOrFaulty = (part : Part) → IsClean part ⊎ IsFaulty part
 

@@ -1,3 +1,4 @@
+pub mod formers
 pub mod Parts
 pub mod Plans
 pub mod Shown

@@ -1,16 +1,23 @@
 -- What a part means, what reads of it cost, and its first fault.
-use Rattle.std.specs.Prelude.{◌≡◌, ◌≤◌, ◌<◌, ◌^◌, ◌*◌, ◌⊎◌, ℕ, ◌+◌, List, [], ◌∷◌, map, length, take, get_or, replicate, IsTrue, IsFalse}
+use Rattle.std.specs.Prelude.{◌≡◌, ◌≤◌, ◌<◌, ◌^◌, ◌*◌, ◌⊎◌, ℕ, ◌+◌, List, [], ◌∷◌, map, length, take, get_or, replicate, Option, Some, None, IsTrue, IsFalse}
 use Rattle.std.specs.List.{All}
 use Rattle.vx_rows.specs.Fits.{row_fits}
 use Rattle.vx_rows.specs.declared.dtype.DType.{DType}
 use Rattle.vx_rows.specs.declared.error.ColumnError.{ColumnError}
-use Rattle.vx_rows.specs.declared.error.ColumnError.TheVariants.{OutOfMemory, Malformed, UnknownColumn}
+use Rattle.vx_rows.specs.declared.error.ColumnError.TheVariants.{OutOfMemory, Malformed, Unsupported, UnknownColumn}
 use Rattle.vx_rows.specs.declared.error.Rule.{Rule}
 use Rattle.vx_rows.specs.declared.error.Rule.TheVariants.{RowType, TooLong, ChunkType}
 use Rattle.vx_search.specs.Places.{search_bound}
 use Rattle.vx_chunks.specs.Bounds.{total}
 use Rattle.vx_base.specs.Column.{Flat, flat}
-use Rattle.vx_column.specs.Columns.{Rows, joined, greatest, rows_of, type_of, IsSound, point_cost, lane_cost, is_plain}
+use Rattle.vx_patches.specs.Making.{made}
+use Rattle.vx_patches.specs.Search.{search_cost}
+use Rattle.vx_lanes.specs.Layouts.{layout, overlaid}
+use Rattle.vx_interleave.specs.Selections.{selection, pairs_of}
+use Rattle.vx_column.specs.Kinds.{woven_type}
+use Rattle.vx_column.specs.Faults.{Fault, error_at, IsLanesFault, IsExceptionsFault, IsWovenFault}
+use Rattle.vx_column.specs.Faults.Fault.{Broken}
+use Rattle.vx_column.specs.Columns.{Rows, joined, excepted, woven, greatest, lane_reads, rows_of, type_of, IsSound, point_cost, lane_cost, is_plain}
 use Rattle.vx_column.specs.declared.column.Column.{Column}
 use Rattle.vx_plan.specs.declared.part.Part.{Part, out-Part}
 use Rattle.vx_plan.specs.declared.part.Part.TheOpen.{Part-F}
@@ -20,6 +27,9 @@ abbrev pub type_step : Part-F DType → DType
 type_step (Part-F.Flat c) = c.dtype
 type_step (Part-F.Constant t r n) = t
 type_step (Part-F.Chunked t types) = t
+type_step (Part-F.Lanes inner n_lanes offset lane_offsets indices values) = inner
+type_step (Part-F.Excepted base offset indices values chunk_offsets) = base
+type_step (Part-F.Interleaved types array_indices row_indices) = woven_type types
 
 -- the type of a part
 abbrev pub part_type : Part → DType
@@ -29,6 +39,9 @@ abbrev pub rows_step : Part-F Rows → Rows
 rows_step (Part-F.Flat c) = c.rows
 rows_step (Part-F.Constant t r n) = replicate n r
 rows_step (Part-F.Chunked t parts) = joined parts
+rows_step (Part-F.Lanes inner n_lanes offset lane_offsets indices values) = overlaid (layout (length inner) n_lanes offset lane_offsets indices values) inner
+rows_step (Part-F.Excepted base offset indices values chunk_offsets) = excepted (made (length base) offset indices chunk_offsets) values base
+rows_step (Part-F.Interleaved values array_indices row_indices) = woven values (pairs_of (selection array_indices row_indices))
 
 -- the rows of a part
 abbrev pub part_rows : Part → Rows
@@ -45,6 +58,9 @@ abbrev pub point_step : Part-F ℕ → ℕ
 point_step (Part-F.Flat c) = 1
 point_step (Part-F.Constant t r n) = 1
 point_step (Part-F.Chunked t parts) = search_bound (length parts + 1) + greatest parts
+point_step (Part-F.Lanes inner n_lanes offset lane_offsets indices values) = lane_reads n_lanes + inner
+point_step (Part-F.Excepted base offset indices values chunk_offsets) = search_cost (made 0 offset indices chunk_offsets) + (base + values)
+point_step (Part-F.Interleaved values array_indices row_indices) = 2 + greatest values
 
 -- the most that a read raises the ledger by
 abbrev pub part_point_cost : Part → ℕ
@@ -54,6 +70,9 @@ abbrev pub lane_step : Part-F ℕ → ℕ
 lane_step (Part-F.Flat c) = 0
 lane_step (Part-F.Constant t r n) = 0
 lane_step (Part-F.Chunked t parts) = total parts
+lane_step (Part-F.Lanes inner n_lanes offset lane_offsets indices values) = length lane_offsets.rows + length indices.rows + inner
+lane_step (Part-F.Excepted base offset indices values chunk_offsets) = base + values
+lane_step (Part-F.Interleaved values array_indices row_indices) = total values
 
 -- the lane offsets and exceptions of a part
 abbrev pub part_lane_cost : Part → ℕ
@@ -70,48 +89,67 @@ part_select_bound part n = 8 * n * part_point_cost part + part_lane_cost part
 abbrev pub IsPartOf : DType → Part → Type 0
 IsPartOf t part = part_type part ≡ t
 
+-- what is wrong with a part over clean ones, the first in order; None where nothing is
+abbrev pub IsOwnFault : Part-F Part → Option Fault → Type 0
+IsOwnFault (Part-F.Flat c) fault = fault ≡ None
+IsOwnFault (Part-F.Constant t r n) None = IsTrue (row_fits t r)
+IsOwnFault (Part-F.Constant t r n) (Some fault) = (fault ≡ Broken RowType) × IsFalse (row_fits t r)
+IsOwnFault (Part-F.Chunked t parts) None = (total (map part_len parts) < 2 ^ 64) × All (IsPartOf t) parts
+IsOwnFault (Part-F.Chunked t parts) (Some fault) =
+    ((fault ≡ Broken TooLong) × (2 ^ 64 ≤ total (map part_len parts)))
+    ⊎ ((fault ≡ Broken ChunkType) × (total (map part_len parts) < 2 ^ 64) × (All (IsPartOf t) parts → ⊥))
+IsOwnFault (Part-F.Lanes inner n_lanes offset lane_offsets indices values) fault =
+    IsLanesFault (part_type inner) (part_len inner) n_lanes offset lane_offsets indices values fault
+IsOwnFault (Part-F.Excepted base offset indices values chunk_offsets) fault =
+    IsExceptionsFault (part_type base) (part_len base) offset indices (part_type values) (part_len values) chunk_offsets fault
+IsOwnFault (Part-F.Interleaved values array_indices row_indices) fault =
+    IsWovenFault (map part_type values) (map part_len values) array_indices row_indices fault
+
 -- the part's own rules
 abbrev pub IsCleanLayer : Part-F Part → Type 0
-IsCleanLayer (Part-F.Flat c) = Unit {0}
-IsCleanLayer (Part-F.Constant t r n) = IsTrue (row_fits t r)
-IsCleanLayer (Part-F.Chunked t parts) = (total (map part_len parts) < 2 ^ 64) × All (IsPartOf t) parts
+IsCleanLayer part = IsOwnFault part None
 
 -- no part in it breaks a rule
 abbrev pub IsClean : Part → Type 0
 IsClean = every-Part IsCleanLayer
 
--- the parts in it are clean, and it breaks a rule, the first that it breaks
-abbrev pub OwnFault : Rule → Part-F Part → Type 0
-OwnFault rule (Part-F.Flat c) = ⊥
-OwnFault rule (Part-F.Constant t r n) = (rule ≡ RowType) × IsFalse (row_fits t r)
-OwnFault rule (Part-F.Chunked t parts) =
-    All IsClean parts × (((rule ≡ TooLong) × (2 ^ 64 ≤ total (map part_len parts))) ⊎ ((rule ≡ ChunkType) × (total (map part_len parts) < 2 ^ 64) × (All (IsPartOf t) parts → ⊥)))
+-- the parts within a part, in order
+abbrev pub children : {A : Type 0} → Part-F A → List A
+children (Part-F.Flat c) = []
+children (Part-F.Constant t r n) = []
+children (Part-F.Chunked t parts) = parts
+children (Part-F.Lanes inner n_lanes offset lane_offsets indices values) = inner ∷ []
+children (Part-F.Excepted base offset indices values chunk_offsets) = base ∷ values ∷ []
+children (Part-F.Interleaved values array_indices row_indices) = values
+
+-- the parts in it are clean, and it has a fault of its own, the first that it has
+abbrev pub OwnFault : Fault → Part-F Part → Type 0
+OwnFault fault part = All IsClean (children part) × IsOwnFault part (Some fault)
 
 -- those before the part of that number are clean, and that part is faulty
 abbrev pub At : (Part → Type 0) → ℕ → List Part → Type 0
 At Faulty k parts = (k < length parts) × All IsClean (take k parts) × ((d : Part) → Faulty (get_or parts k d))
 
-abbrev pub Under : (Part → Type 0) → ℕ → Part-F Part → Type 0
-Under Faulty k (Part-F.Flat c) = ⊥
-Under Faulty k (Part-F.Constant t r n) = ⊥
-Under Faulty k (Part-F.Chunked t parts) = At Faulty k parts
-
 -- the first fault of the part, in walking order, stands at this path
-abbrev pub FaultAt : List ℕ → Rule → Part → Type 0
-FaultAt [] rule part = OwnFault rule (out-Part part)
-FaultAt (k ∷ path) rule part = Under (FaultAt path rule) k (out-Part part)
+abbrev pub FaultAt : List ℕ → Fault → Part → Type 0
+FaultAt [] fault part = OwnFault fault (out-Part part)
+FaultAt (k ∷ path) fault part = At (FaultAt path fault) k (children (out-Part part))
 
 -- the error names the first fault of the part
 abbrev pub IsFirstFaultOf : Part → ColumnError → Type 0
-IsFirstFaultOf part e = (path : List ℕ) × (rule : Rule) × (e ≡ Malformed path rule) × FaultAt path rule part
+IsFirstFaultOf part e = (path : List ℕ) × (fault : Fault) × (e ≡ error_at path fault) × FaultAt path fault part
 
 -- the error names the first fault of the parts
 abbrev pub IsFirstFault : List Part → ColumnError → Type 0
-IsFirstFault parts e = (k : ℕ) × (path : List ℕ) × (rule : Rule) × (e ≡ Malformed (k ∷ path) rule) × At (FaultAt path rule) k parts
+IsFirstFault parts e = (k : ℕ) × (path : List ℕ) × (fault : Fault) × (e ≡ error_at (k ∷ path) fault) × At (FaultAt path fault) k parts
 
 -- why a part isn't opened
 abbrev pub IsFaultOf : Part → ColumnError → Type 0
 IsFaultOf part e = (e ≡ OutOfMemory) ⊎ IsFirstFaultOf part e
+
+-- why a child of that number isn't opened, as the part that holds it tells
+abbrev pub IsFaultUnder : ℕ → Part → ColumnError → Type 0
+IsFaultUnder number part e = (e ≡ OutOfMemory) ⊎ ((path : List ℕ) × (fault : Fault) × (e ≡ error_at (number ∷ path) fault) × FaultAt path fault part)
 
 -- why parts aren't opened
 abbrev pub IsFaultIn : List Part → ColumnError → Type 0
@@ -124,6 +162,7 @@ PartsCause parts e = ((e ≡ UnknownColumn 0) × (parts ≡ [])) ⊎ IsFaultIn p
 -- the same error under a number, or want of memory
 abbrev pub Within : ℕ → ColumnError → ColumnError → Type 0
 Within number (Malformed path rule) e = (e ≡ OutOfMemory) ⊎ (e ≡ Malformed (number ∷ path) rule)
+Within number (Unsupported path) e = (e ≡ OutOfMemory) ⊎ (e ≡ Unsupported (number ∷ path))
 Within number error e = e ≡ error
 
 -- the column is the part's

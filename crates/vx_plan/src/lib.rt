@@ -2,6 +2,7 @@
 #![tactic(auto)]
 
 pub mod answers;
+pub mod boxed;
 pub mod laws;
 pub mod page;
 pub mod part;
@@ -9,6 +10,7 @@ pub mod run;
 pub mod step;
 
 pub use answers::Answers;
+pub use boxed::Boxed;
 pub use page::{Answer, Page};
 pub use part::Part;
 pub use run::run_plan;

@@ -1,13 +1,14 @@
 //! Plans: the steps, taken in order over the first of the parts.
-ghost use Rattle.std.specs.Prelude.{◌≡◌, ℕ, ◌+◌, ◌*◌, ◌≤◌, ◌⊎◌, ◌++◌, length, false};
+ghost use Rattle.std.specs.Prelude.{◌≡◌, ℕ, ◌+◌, ◌*◌, ◌≤◌, ◌⊎◌, ◌++◌, ◌∷◌, [], length, false};
 ghost use Rattle.std.specs.Prelude.{IfOk, OnOk, IfErr, IsOkUnless, IsTrue, List};
 ghost use Rattle.vx_base.specs.Column.{Flat};
 ghost use Rattle.vx_column.specs.Columns.{rows_of, len_of, flat_of, IsSound, point_cost, select_bound, is_plain};
 ghost use Rattle.vx_plan.specs.Answered.{CostsNoMore};
-ghost use Rattle.vx_plan.specs.Parts.{IsFirst, IsOpenError};
+ghost use Rattle.vx_plan.specs.Parts.{IsFirst, IsOpenError, open_cost};
 ghost use Rattle.vx_plan.specs.Plans.{run_rows, Reached, IsRunError, Reaches, IsPlanError, plan_cost, plan_bound, rows_bound};
 ghost use Rattle.vx_plan.specs.Plans.{picked, stops_at, any_past, step_leaves, step_answers, step_cost, IsStepError, IsPointsError};
 ghost use Rattle.vx_plan.specs.declared.page.Answer.{Answer};
+ghost use Rattle.vx_plan.specs.declared.page.Answer.TheVariants.{Rows as answer_rows};
 
 use crate::answers::Answers;
 use crate::page::Answer;
@@ -52,16 +53,18 @@ fn open_and_run<L: Ledger>(
     ensures plain { IfOk result (λ a. IsTrue (is_plain a.column)) }
     ensures select { IfOk result (λ a. (n : ℕ) → select_bound a.column n ≤ rows_bound parts.items n) }
 {
-    let first = open_first(alloc, parts)?;
+    let first = open_first(alloc, parts, steps)?;
     run_steps(alloc, first, plan, steps)
 }
 
 /// Opens the parts, of which the first is the column that a plan starts with.
-fn open_first(alloc: Global, parts: Vec<Part>) -> Res<Column>
+fn open_first<L: Ledger>(alloc: Global, parts: Vec<Part>, steps: &mut Steps<L>) -> Res<Column>
     ensures ok { IfOk result (λ column. IsFirst parts.items column) }
     ensures err { IfErr result (λ e. (e ≡ ColumnError.OutOfMemory) ⊎ IsOpenError parts.items e) }
+    ensures rise { steps.new ≤ steps.old + open_cost parts.items }
+    ensures kept { steps.old ≤ steps.new }
 {
-    let columns = open_parts(alloc, parts)?;
+    let columns = open_parts(alloc, parts, steps)?;
     columns.as_slice()[0].share(alloc)
 }
 
@@ -109,11 +112,30 @@ fn take_step<L: Ledger>(
     match step {
         Step::Slice { start, end } => column.slice(alloc, *start..*end, steps),
         Step::Points { rows, kept: _ } => {
-            let answer = points(alloc, &column, rows.as_slice(), steps)?;
-            answers.push(Answer::Rows(answer))?;
+            answer_points(alloc, &column, rows.as_slice(), answers, steps)?;
             Ok(column)
         }
     }
+}
+
+/// Appends the rows of these numbers, in order, as an answer.
+fn answer_points<L: Ledger>(
+    alloc: Global,
+    column: &Column,
+    numbers: &[usize],
+    answers: &mut Vec<Answer>,
+    steps: &mut Steps<L>,
+) -> Res<()>
+    requires { IsSound column.now }
+    ensures answers { OnOk result (answers.new.items ≡ answers.old.items ++ answer_rows (picked (rows_of column.now) numbers.now) ∷ []) }
+    ensures inside { OnOk result (any_past (len_of column.now) numbers.now ≡ false) }
+    ensures err { IfErr result (λ e. (e ≡ ColumnError.OutOfMemory) ⊎ IsPointsError (len_of column.now) numbers.now e) }
+    ensures rise { steps.new ≤ steps.old + length numbers.now * point_cost column.now }
+    ensures kept { steps.old ≤ steps.new }
+{
+    let rows = points(alloc, column, numbers, steps)?;
+    answers.push(Answer::Rows(rows))?;
+    Ok(())
 }
 
 /// The rows of these numbers, in order.

@@ -5,3 +5,5 @@
 mod closures;
 #[cfg(test)]
 mod columns;
+#[cfg(test)]
+mod integers;

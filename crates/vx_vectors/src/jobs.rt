@@ -18,7 +18,7 @@ fn reply(
     Ok((status, written))
 }
 
-fn reply_to_text(rt: &HostRuntime, text: &str) -> Result<(Status, Vec<u8>), AllocError> {
+pub(crate) fn reply_to_text(rt: &HostRuntime, text: &str) -> Result<(Status, Vec<u8>), AllocError> {
     let bytes = Vec::from_slice(rt.alloc(), text.as_bytes())?;
     reply(rt, &[], bytes)
 }
@@ -66,6 +66,14 @@ fn pages(rt: HostRuntime) -> Result<(), Fail> {
         (
             "{\"plan\":[{\"slice\":[18446744073709551612,18446744073709551615]},{\"points\":[1,1],\"kept\":false}],\"parts\":[{\"constant\":\"bool?\",\"row\":null,\"len\":18446744073709551615},{\"flat\":\"u8\",\"rows\":[]}]}",
             "{\"answers\":[{\"rows\":[null,null]}],\"rows\":[null,null,null],\"type\":\"bool?\"}\n",
+        ),
+        (
+            "{\"parts\":[{\"chunked\":\"i64\",\"chunks\":[{\"flat\":\"i64\",\"rows\":[120,80,45]},{\"excepted\":{\"flat\":\"i64\",\"rows\":[10,10,10,10]},\"offset\":0,\"indices\":{\"flat\":\"u32\",\"rows\":[1,3]},\"values\":{\"flat\":\"i64\",\"rows\":[999,5000]},\"chunk_offsets\":null},{\"lanes\":{\"flat\":\"i64\",\"rows\":[7,7,7]},\"n_lanes\":1,\"offset\":0,\"lane_offsets\":{\"flat\":\"u32\",\"rows\":[0,1]},\"indices\":{\"flat\":\"u16\",\"rows\":[2]},\"values\":{\"flat\":\"i64\",\"rows\":[70]}}]}],\"plan\":[{\"points\":[4,6,9],\"kept\":false},{\"slice\":[2,10]}]}",
+            "{\"answers\":[{\"rows\":[999,5000,70]}],\"rows\":[45,10,999,10,5000,7,7,70],\"type\":\"i64\"}\n",
+        ),
+        (
+            "{\"parts\":[{\"interleaved\":[{\"flat\":\"i32\",\"rows\":[10,20]},{\"flat\":\"i32?\",\"rows\":[7]}],\"array_indices\":{\"flat\":\"u8\",\"rows\":[0,1,0,0]},\"row_indices\":{\"flat\":\"u64\",\"rows\":[1,0,0,1]}}],\"plan\":[{\"slice\":[0,3]}]}",
+            "{\"answers\":[],\"rows\":[20,7,10],\"type\":\"i32?\"}\n",
         ),
         (
             "{\"parts\":[{\"flat\":\"i8\",\"rows\":[\"replaced\"],\"rows\":[-128,127]}],\"plan\":[]}",

@@ -95,3 +95,16 @@ fn no_chunk_offsets(rt: HostRuntime) -> Result<(), Fail> {
     assert!(rt; matches!(&refused, Err(ColumnError::NoChunkOffsets)));
     Ok(())
 }
+
+#[test]
+fn shares_its_places(rt: HostRuntime) -> Result<(), Fail> {
+    let mut steps = Steps::new(&rt, NoLedger::new());
+    let other = three_chunks(rt.alloc())?.share()?;
+    assert_eq!(rt; other.num_patches(), 4);
+    assert_eq!(rt; other.offset_within_chunk(), Some(0));
+    assert_eq!(rt;
+        other.search_index(1030, &mut steps),
+        SearchResult::Found(2)
+    );
+    Ok(())
+}

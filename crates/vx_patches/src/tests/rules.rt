@@ -122,3 +122,14 @@ fn no_rule(rt: HostRuntime) -> Result<(), Fail> {
     assert_eq!(rt; rule, None);
     Ok(())
 }
+
+#[test]
+fn chunk_offsets_behind_other_rules(rt: HostRuntime) -> Result<(), Fail> {
+    let alloc = rt.alloc();
+    let indices = column(alloc, PType::U32, &[1, 5])?;
+    let places = PatchIndex::try_new(alloc, 10, 0, indices, None)?;
+    let offsets = column(alloc, PType::U64, &[1])?;
+    let rule = rule_of(places.with_chunk_offsets(alloc, Some(offsets)));
+    assert_eq!(rt; rule, Some(Rule::ChunkOffsetWrong));
+    Ok(())
+}

@@ -10,6 +10,15 @@ decreases-part_of l = 3 * l.depth
 abbrev pub decreases-chunked_of : goal.decreases-chunked_of
 decreases-chunked_of l = 3 * l.depth + 2
 
+abbrev pub decreases-lanes_of : goal.decreases-lanes_of
+decreases-lanes_of l = 3 * l.depth + 2
+
+abbrev pub decreases-excepted_of : goal.decreases-excepted_of
+decreases-excepted_of l = 3 * l.depth + 2
+
+abbrev pub decreases-interleaved_of : goal.decreases-interleaved_of
+decreases-interleaved_of l = 3 * l.depth + 2
+
 abbrev pub decreases-parts_of : goal.decreases-parts_of
 decreases-parts_of l = 3 * l.depth + 1
 

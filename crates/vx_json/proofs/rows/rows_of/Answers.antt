@@ -9,12 +9,12 @@ pub returns-in_err-row_of : goal.returns-in_err-row_of
 returns-in_err-row_of c =
     let p = err_from_is_err_and c.from_residual-in_err-row_of.result
     c.from_residual-in_err-row_of.ensures.1 in
-    rw (p.1, p.2) (list_fails row_of _ c.deref-item-items.result.now c.loop-item.item-index
+    rw (p.1, p.2) (list_fails (row_of c.args.dtype.now) _ c.deref-item-items.result.now c.loop-item.item-index
     c.item-item.result _
     (c.in_ok-items.ensures ∙ ap (λ vs. Some (items_view vs)) (sym c.deref-item-items.ensures.value))
     c.loop-item-test.true c.item-item.is c.in_err-row_of.ensures)
 
 pub loop-item-preserved : goal.loop-item-preserved
 loop-item-preserved c =
-    rw c.in_ok-push.ensures.items (all_items-next row_of c.deref-item-items.result.now c.loop-item.item-index
+    rw c.in_ok-push.ensures.items (all_items-next (row_of c.args.dtype.now) c.deref-item-items.result.now c.loop-item.item-index
     c.item-item.result _ _ c.loop-item-test.true c.item-item.is c.loop-item.invariant c.in_ok-row_of.ensures)

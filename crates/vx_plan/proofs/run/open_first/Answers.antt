@@ -8,16 +8,16 @@ use Rattle.vx_plan.proofs.Headline.{first_is, parts_error}
 use Rattle.vx_plan.proofs.run.open_first.Goals as goal
 
 pub returns-in_err-columns-clause-err : goal.returns-in_err-columns-clause-err
-returns-in_err-columns-clause-err c =
+returns-in_err-columns-clause-err g c =
     let p = err_from_is_err_and c.from_residual.result c.from_residual.ensures.1 in
     rw (p.1, p.2) (parts_error c.args.parts.items c.in_err-columns.field-0.0 c.in_err-columns.ensures.err)
 
 pub bounds-as_slice-0 : goal.bounds-as_slice-0
-bounds-as_slice-0 c =
+bounds-as_slice-0 g c =
     omega (arith, c.in_ok-columns.ensures.some, opened_length c.args.parts.items c.in_ok-columns.columns.items c.in_ok-columns.ensures.ok, ap length c.as_slice.ensures.value)
 
 pub returns-clause-ok : goal.returns-clause-ok
-returns-clause-ok c =
+returns-clause-ok g c =
     let parts = c.args.parts.items in
     let columns = c.in_ok-columns.columns.items in
     let x = c.index-as_slice-0.result in

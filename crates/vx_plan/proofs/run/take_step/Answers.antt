@@ -1,6 +1,6 @@
 use Rattle.std.proofs.Common.{ap, arith}
 use Rattle.std.proofs.Math.Nat.{le_refl}
-use Rattle.vx_chunks.specs.Bounds.{ends_cut}
+use Rattle.vx_base.specs.Ranges.{ends_cut}
 use Rattle.vx_column.specs.Columns.{len_of, point_cost, cut_cost}
 use Rattle.vx_column.proofs.Cuts.{cut_at_most_twice}
 use Rattle.vx_plan.specs.Plans.{step_cost}

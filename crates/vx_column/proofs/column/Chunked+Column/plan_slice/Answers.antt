@@ -1,7 +1,8 @@
 use Rattle.std.proofs.Common.{◌≡◌, ℕ, List, ◌+◌, ◌*◌, ◌≤◌, subst, arith, ap, ◌∙◌, length}
 use Rattle.std.proofs.lemmas.List.{length-map}
 use Rattle.vx_search.specs.Places.{search_bound}
-use Rattle.vx_chunks.specs.Bounds.{total, ends_cut}
+use Rattle.vx_base.specs.Ranges.{ends_cut}
+use Rattle.vx_chunks.specs.Bounds.{total}
 use Rattle.vx_chunks.specs.Plans.{IsPlanOf}
 use Rattle.vx_column.specs.Columns.{len_of}
 use Rattle.vx_column.proofs.Cuts.{total_is}

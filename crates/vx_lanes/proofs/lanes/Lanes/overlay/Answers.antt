@@ -1,10 +1,9 @@
-use Rattle.std.proofs.Common.{◌≡◌, ℕ, ◌+◌, ◌-◌, ◌*◌, ◌/◌, ◌<◌, ◌≤◌, ◌⊎◌, inl, inr, arith, sym, ap, ◌∙◌, length, get_or, None, Some}
-use Rattle.std.proofs.lemmas.Bool.{cases_lt}
+use Rattle.std.proofs.Common.{◌≡◌, ℕ, ◌+◌, ◌*◌, ◌/◌, ◌<◌, ◌≤◌, arith, ap, ◌∙◌, length, get_or, None}
 use Rattle.vx_base.specs.Column.{Flat}
-use Rattle.vx_lanes.specs.Layouts.{IsLayout, entries, exceptions, lane_start, index_of, laid}
-use Rattle.vx_lanes.proofs.Entries.{entry_inside, entries_fit, index_low, starts_rise}
+use Rattle.vx_lanes.specs.Layouts.{entries, lane_start, laid}
+use Rattle.vx_lanes.proofs.Entries.{entry_inside, index_low}
 use Rattle.vx_lanes.proofs.Exceptions.{Belongs}
-use Rattle.vx_lanes.proofs.Overlays.{Under, under_none, under_more, under_all, covered, covered-le, covered-rise, covered-more, stands_at, place_fits, cost_more}
+use Rattle.vx_lanes.proofs.Overlays.{under_none, under_more, under_all, covered, covered-le, stands_at, place_fits, cost_more}
 use Rattle.vx_lanes.proofs.lanes.Lanes.overlay.Goals as goal
 
 pub loop-g-init : goal.loop-g-init

@@ -1,4 +1,4 @@
-use Rattle.std.proofs.Common.{◌≡◌, ℕ, ◌+◌, ◌-◌, ◌<◌, ◌≤◌, length}
+use Rattle.std.proofs.Common.{◌≡◌, ◌+◌, ◌-◌, ◌≤◌, length}
 use Rattle.vx_lanes.specs.Layouts.{lane_start}
 use Rattle.vx_lanes.proofs.Overlays.{Under, covered}
 use Rattle.vx_lanes.proofs.lanes.Lanes.overlay.Given as goal

@@ -1,7 +1,7 @@
-use Rattle.std.proofs.Common.{◌≡◌, ℕ, ◌+◌, ◌-◌, ◌*◌, ◌/◌, ◌%◌, ◌<◌, ◌≤◌, length, arith, sym, ap, ◌∙◌, subst}
+use Rattle.std.proofs.Common.{◌≡◌, ◌*◌, ◌/◌, arith, sym, ap, ◌∙◌, subst}
 use Rattle.std.proofs.lemmas.Result.{IfOk-weaker}
 use Rattle.vx_lanes.specs.declared.layout.Layout.{Layout}
-use Rattle.vx_lanes.specs.Layouts.{IsLayout, exception_of, layout_part, layout_slice, entries}
+use Rattle.vx_lanes.specs.Layouts.{IsLayout, exception_of}
 use Rattle.vx_lanes.proofs.Entries.{entries_fit}
 use Rattle.vx_lanes.proofs.Slices.{base, size, size_within, slice_sound, slice_means, slice_is}
 use Rattle.vx_lanes.proofs.lanes.Lanes.slice.Goals as goal

@@ -1,4 +1,4 @@
-use Rattle.std.proofs.Common.{◌≡◌, ℕ, ◌+◌, ◌-◌, ◌*◌, ◌<◌, ◌≤◌, length, arith, sym, ap, ◌∙◌}
+use Rattle.std.proofs.Common.{arith}
 use Rattle.vx_lanes.proofs.Slices.{none_sound}
 use Rattle.vx_lanes.proofs.lanes.Lanes.slice_chunks.Goals as goal
 

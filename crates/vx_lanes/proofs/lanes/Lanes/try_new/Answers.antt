@@ -1,7 +1,5 @@
-use Rattle.std.proofs.Common.{◌≡◌, sym, subst, true}
+use Rattle.std.proofs.Common.{sym, subst}
 use Rattle.vx_rows.specs.Types.{AlikeTypes}
-use Rattle.vx_base.specs.Numbers.{is_integer}
-use Rattle.vx_lanes.specs.Layouts.{layout}
 use Rattle.vx_lanes.proofs.Sound.{sound, alike_tells, alike_integer}
 use Rattle.vx_lanes.proofs.lanes.Lanes.try_new.Goals as goal
 

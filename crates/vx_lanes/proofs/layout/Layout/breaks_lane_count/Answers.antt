@@ -1,4 +1,4 @@
-use Rattle.std.proofs.Common.{◌≡◌, ℕ, ◌+◌, ◌<◌, ◌^◌, eqb, false, true, sym, arith, ap, length, not}
+use Rattle.std.proofs.Common.{◌^◌, eqb, false, sym, arith, ap, not}
 use Rattle.std.proofs.lemmas.Bool.Decides.{nat_tests}
 use Rattle.std.proofs.lemmas.Nat.{one_shl}
 use Rattle.vx_lanes.specs.Rules.{lane_count}

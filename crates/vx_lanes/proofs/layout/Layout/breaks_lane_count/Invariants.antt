@@ -1,4 +1,4 @@
-use Rattle.std.proofs.Common.{◌≡◌, ℕ, ◌^◌, eqb, false}
+use Rattle.std.proofs.Common.{◌≡◌, ◌^◌, eqb, false}
 use Rattle.vx_lanes.specs.Rules.{any_below}
 use Rattle.vx_lanes.proofs.layout.Layout.breaks_lane_count.Given as goal
 

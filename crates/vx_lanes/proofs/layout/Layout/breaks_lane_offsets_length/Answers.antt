@@ -1,4 +1,4 @@
-use Rattle.std.proofs.Common.{◌≡◌, ℕ, ◌+◌, ◌*◌, ◌<◌, ◌≤◌, ◌^◌, arith}
+use Rattle.std.proofs.Common.{◌≤◌, ◌^◌, arith}
 use Rattle.std.proofs.lemmas.Nat.{mul-le}
 use Rattle.vx_lanes.proofs.Firsts.{short_fits, lane_count_few}
 use Rattle.vx_lanes.proofs.layout.Layout.breaks_lane_offsets_length.Goals as goal

@@ -1,7 +1,7 @@
-use Rattle.std.proofs.Common.{◌≡◌, ℕ, ◌+◌, ◌-◌, ◌<◌, ◌≤◌, arith, sym, ap, ◌∙◌, length}
-use Rattle.vx_lanes.specs.Layouts.{entries, exceptions, lane_start}
+use Rattle.std.proofs.Common.{◌≡◌, ◌-◌, arith, sym, ap, ◌∙◌}
+use Rattle.vx_lanes.specs.Layouts.{entries, lane_start}
 use Rattle.vx_lanes.proofs.Firsts.{length_tells, lanes_positive}
-use Rattle.vx_lanes.proofs.Sound.{Offsets, offsets_pass, end_tells, index_type_tells}
+use Rattle.vx_lanes.proofs.Sound.{offsets_pass, end_tells, index_type_tells}
 use Rattle.vx_lanes.proofs.Typed.{u16_unsigned, u32_unsigned}
 use Rattle.vx_lanes.proofs.layout.Layout.index_fault.Goals as goal
 

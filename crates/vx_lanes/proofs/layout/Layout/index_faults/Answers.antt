@@ -1,6 +1,6 @@
-use Rattle.std.proofs.Common.{◌≡◌, ℕ, ◌+◌, ◌-◌, ◌%◌, ◌<◌, ◌≤◌, ◌⊎◌, inl, inr, arith, sym, ap, ◌∙◌, length}
+use Rattle.std.proofs.Common.{◌≡◌, ℕ, ◌+◌, ◌-◌, ◌%◌, ◌<◌, ◌≤◌, inl, inr, arith, sym, ap, ◌∙◌}
 use Rattle.std.proofs.lemmas.Bool.{cases_eq}
-use Rattle.vx_lanes.specs.Layouts.{index_of, lane_start, entries, exceptions}
+use Rattle.vx_lanes.specs.Layouts.{lane_start, entries}
 use Rattle.vx_lanes.specs.Rules.{any_between, any_entry, over_range, off_lane, off_order, lane_index_range, lane_index_lane, lane_index_order}
 use Rattle.vx_lanes.proofs.Firsts.{any_between_none, any_between_join, any_below_none, any_below_more, fall_tells, starts_up}
 use Rattle.vx_lanes.proofs.layout.Layout.index_faults.Goals as goal
@@ -22,11 +22,11 @@ loop-g-init g c =
       kept = omega (arith, c.start_of-from.ensures.kept);
     }
 
-pub entry_faults-requires-clause-ordered : goal.entry_faults-requires-clause-ordered
-entry_faults-requires-clause-ordered g c = omega (arith, c.loop-g.invariant.from, c.start_of-to.ensures.offset, fall_tells c.args.self.now c.loop-g.g c.requires.rising (omega arith))
+pub entry_faults-faults-requires-clause-ordered : goal.entry_faults-faults-requires-clause-ordered
+entry_faults-faults-requires-clause-ordered g c = omega (arith, c.loop-g.invariant.from, c.start_of-to.ensures.offset, fall_tells c.args.self.now c.loop-g.g c.requires.rising (omega arith))
 
-pub entry_faults-requires-clause-inside : goal.entry_faults-requires-clause-inside
-entry_faults-requires-clause-inside g c =
+pub entry_faults-faults-requires-clause-inside : goal.entry_faults-faults-requires-clause-inside
+entry_faults-faults-requires-clause-inside g c =
     let up : lane_start c.args.self.now (c.loop-g.g + 1) ≤ lane_start c.args.self.now (entries c.args.self.now) = starts_up c.args.self.now (c.loop-g.g + 1) c.requires.rising (omega arith) in
     omega (arith, up, c.start_of-to.ensures.offset, c.requires.end, c.requires.inside)
 
@@ -38,16 +38,16 @@ loop-g-preserved g c =
     let to : c.start_of-to.result ≡ lane_start l (k + 1) = c.start_of-to.ensures.offset in
     let up : lane_start l k ≤ lane_start l (k + 1) = fall_tells l k c.requires.rising (omega arith) in
     let past : lane_start l 0 ≤ c.loop-g.from = c.loop-g.invariant.past in
-    let cost : c.entry_faults.new.steps ≡ c.start_of-to.new.steps + (c.start_of-to.result - c.loop-g.from) = c.entry_faults.ensures.cost in
+    let cost : c.entry_faults-faults.new.steps ≡ c.start_of-to.new.steps + (c.start_of-to.result - c.loop-g.from) = c.entry_faults-faults.ensures.cost in
     let here : k < entries l = omega arith in
     record {
       from = to;
       past = omega arith;
-      range = cc (c.with-faults.ensures.range, c.loop-g.invariant.range, c.entry_faults.ensures.range, any_between_join (over_range l) (lane_start l 0) (lane_start l k) (lane_start l (k + 1)) (omega arith) up);
-      lane = cc (c.with-faults.ensures.lane, c.loop-g.invariant.lane, c.entry_faults.ensures.lane, any_below_more (λ h. any_between (off_lane l (h % l.n_lanes)) (lane_start l h) (lane_start l (h + 1))) k);
-      order = cc (c.with-faults.ensures.order, c.loop-g.invariant.order, c.entry_faults.ensures.order, any_below_more (λ h. any_between (off_order l (lane_start l h)) (lane_start l h) (lane_start l (h + 1))) k);
+      range = cc (c.loop-g.invariant.range, c.entry_faults-faults.ensures.range, any_between_join (over_range l) (lane_start l 0) (lane_start l k) (lane_start l (k + 1)) (omega arith) up);
+      lane = cc (c.loop-g.invariant.lane, c.entry_faults-faults.ensures.lane, any_below_more (λ h. any_between (off_lane l (h % l.n_lanes)) (lane_start l h) (lane_start l (h + 1))) k);
+      order = cc (c.loop-g.invariant.order, c.entry_faults-faults.ensures.order, any_below_more (λ h. any_between (off_order l (lane_start l h)) (lane_start l h) (lane_start l (h + 1))) k);
       rise = omega (arith, cost, c.start_of-to.ensures.rise, c.loop-g.invariant.rise);
-      most = elim (cases_eq (k + 1) (entries l)) as (λ _. c.entry_faults.new.steps ≤ c.args.steps.now + entries l + (c.start_of-to.result - lane_start l 0)) [
+      most = elim (cases_eq (k + 1) (entries l)) as (λ _. c.entry_faults-faults.new.steps ≤ c.args.steps.now + entries l + (c.start_of-to.result - lane_start l 0)) [
         | inl last ↦ omega (arith, cost, c.start_of-to.ensures.last last, c.loop-g.invariant.most)
         | inr more ↦ let two : k + 2 ≤ entries l = omega (arith, more) in omega (arith, cost, c.start_of-to.ensures.rise, c.loop-g.invariant.rise)
       ];

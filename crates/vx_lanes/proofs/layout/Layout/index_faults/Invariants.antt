@@ -1,5 +1,5 @@
-use Rattle.std.proofs.Common.{◌≡◌, ℕ, ◌+◌, ◌-◌, ◌%◌, ◌<◌, ◌≤◌, length}
-use Rattle.vx_lanes.specs.Layouts.{index_of, lane_start, entries, exceptions}
+use Rattle.std.proofs.Common.{◌≡◌, ◌+◌, ◌-◌, ◌%◌, ◌≤◌}
+use Rattle.vx_lanes.specs.Layouts.{lane_start, entries}
 use Rattle.vx_lanes.specs.Rules.{any_between, any_entry, over_range, off_lane, off_order}
 use Rattle.vx_lanes.proofs.layout.Layout.index_faults.Given as goal
 

@@ -1,0 +1,41 @@
+use Rattle.std.proofs.Common.{◌+◌, ◌++◌, sym, arith, ap, ◌∙◌, take, append_assoc}
+use Rattle.std.proofs.lemmas.List.{take_all}
+use Rattle.vx_column.specs.Columns.{rows_of}
+use Rattle.vx_column.proofs.Cuts.{rows_in, rows_more}
+use Rattle.vx_column.proofs.Layers.{rows_chunked}
+use Rattle.vx_column.proofs.Appends.{append_next, append_bound}
+use Rattle.vx_column.proofs.+append_rows.Goals as goal
+
+pub column::Chunked+Column::append_rows-returns-in_err-append_rows-clause-rise : goal.column::Chunked+Column::append_rows-returns-in_err-append_rows-clause-rise
+column::Chunked+Column::append_rows-returns-in_err-append_rows-clause-rise g t c =
+    let self = c.args.self.now in
+    let xs = c.children-chunk-items.result.now in
+    let k = c.loop-chunk.chunk-index in
+    let next = append_next self xs k c.chunk-item.result c.args.steps.now c.loop-chunk.steps c.append_rows.new.steps c.children-chunk-items.ensures.value (omega arith) c.chunk-item.is c.loop-chunk.invariant.rise c.append_rows.ensures.rise in
+    append_bound self xs (k + 1) c.args.steps.now c.append_rows.new.steps c.children-chunk-items.ensures.value next
+
+pub column::Chunked+Column::append_rows-loop-chunk-preserved : goal.column::Chunked+Column::append_rows-loop-chunk-preserved
+column::Chunked+Column::append_rows-loop-chunk-preserved g t c =
+    let self = c.args.self.now in
+    let xs = c.children-chunk-items.result.now in
+    let k = c.loop-chunk.chunk-index in
+    let old = c.args.out.now in
+    let more = rows_more xs k c.chunk-item.result (omega arith) c.chunk-item.is in
+    record {
+      appended = c.in_ok-append_rows.ensures.ok ∙ ap (λ r. r ++ rows_of c.chunk-item.result) c.loop-chunk.invariant.appended
+          ∙ append_assoc old (rows_in (take k xs)) (rows_of c.chunk-item.result) ∙ ap (λ r. old ++ r) (sym more);
+      rise = append_next self xs k c.chunk-item.result c.args.steps.now c.loop-chunk.steps c.append_rows.new.steps c.children-chunk-items.ensures.value (omega arith) c.chunk-item.is c.loop-chunk.invariant.rise c.append_rows.ensures.rise;
+      kept = omega (arith, c.append_rows.ensures.kept, c.loop-chunk.invariant.kept);
+    }
+
+pub column::Chunked+Column::append_rows-returns-clause-ok : goal.column::Chunked+Column::append_rows-returns-clause-ok
+column::Chunked+Column::append_rows-returns-clause-ok g t c =
+    let self = c.args.self.now in
+    let xs = c.children-chunk-items.result.now in
+    let k = c.loop-chunk.chunk-index in
+    let old = c.args.out.now in
+    c.loop-chunk.invariant.appended ∙ ap (λ ys. old ++ rows_in ys) (take_all k xs (omega arith) ∙ c.children-chunk-items.ensures.value) ∙ ap (λ r. old ++ r) (sym (rows_chunked self))
+
+pub column::Chunked+Column::append_rows-returns-clause-rise : goal.column::Chunked+Column::append_rows-returns-clause-rise
+column::Chunked+Column::append_rows-returns-clause-rise g t c =
+    append_bound c.args.self.now c.children-chunk-items.result.now c.loop-chunk.chunk-index c.args.steps.now c.loop-chunk.steps c.children-chunk-items.ensures.value c.loop-chunk.invariant.rise

@@ -1,0 +1,286 @@
+use Rattle.std.proofs.Common.{refl, ◌≡◌, ◌+◌, ◌-◌, ◌*◌, ◌<◌, ◌≤◌, List, length, subst, ap, ◌∙◌, arith}
+use Rattle.std.proofs.lemmas.List.Elements.{All-take, All-drop}
+use Rattle.std.proofs.lemmas.List.{length-map}
+use Rattle.std.proofs.lemmas.Result.{IfOk-weaker}
+use Rattle.std.specs.List.{slice_range}
+use Rattle.vx_base.specs.Ranges.{ends_cut}
+use Rattle.vx_column.specs.Columns.{len_of, IsSound, cut_cost, IsSliceOf, IsOf, IsWhole}
+use Rattle.vx_column.specs.declared.column.Column.{Column}
+use Rattle.vx_column.specs.declared.column.Column.TheVariants as column
+use Rattle.vx_column.proofs.Cuts.{cut_one, cut_many, fits_many, same_at, held_at, all_round, rise_inside, rise_front, rise_across, rise_plan, flat_slice, flat_same, whole_slice, not_whole, total_is}
+use Rattle.std.proofs.Common.{sym}
+use Rattle.vx_lanes.specs.Layouts.{layout_slice}
+use Rattle.vx_lanes.specs.declared.layout.Layout.{Layout}
+use Rattle.vx_column.specs.Excepts.{IsKeptOf}
+use Rattle.vx_column.proofs.Layers.{lanes_here}
+use Rattle.vx_column.proofs.Excepts.{cut_kinds, cut_some, cut_none, rise_base, rise_values}
+use Rattle.vx_column.proofs.Patches.{IsLaneCut, lanes_slice, layout_long, cut_kinds as lane_kinds, cut_lanes}
+use Rattle.vx_column.proofs.+cut.Goals as goal
+
+pub column::Chunked+Column::cut-returns-in_ok-share-in-Whole-clause-ok : goal.column::Chunked+Column::cut-returns-in_ok-share-in-Whole-clause-ok
+column::Chunked+Column::cut-returns-in_ok-share-in-Whole-clause-ok g t c =
+    let self = c.args.self.now in
+    whole_slice (column.Chunked self) _ c.args.start c.args.end (ap column.Chunked c.in_ok-share-in-Whole.ensures.ok) c.requires.sound c.in-Whole.ensures.plan.0 (c.in-Whole.ensures.plan.1 ∙ total_is self)
+
+pub column::Chunked+Column::cut-returns-in_ok-share-in-Whole-clause-rise : goal.column::Chunked+Column::cut-returns-in_ok-share-in-Whole-clause-rise
+column::Chunked+Column::cut-returns-in_ok-share-in-Whole-clause-rise g t c =
+    rise_plan c.args.self.now c.args.start c.args.end c.args.steps.now c.plan_slice-plan.new.steps c.plan_slice-plan.ensures.rise
+
+pub column::Chunked+Column::cut-returns-in-Empty-clause-same : goal.column::Chunked+Column::cut-returns-in-Empty-clause-same
+column::Chunked+Column::cut-returns-in-Empty-clause-same g t c =
+    IfOk-weaker c.none.result _ (λ part. IsWhole (column.Chunked c.args.self.now) c.args.start c.args.end → part ≡ column.Chunked c.args.self.now)
+    (λ part _ whole. absurd (not_whole c.args.self.now c.args.start c.args.end c.in-Empty.ensures.plan.1 whole)) c.none.ensures.ok
+
+pub column::Chunked+Column::cut-returns-in-Empty-clause-rise : goal.column::Chunked+Column::cut-returns-in-Empty-clause-rise
+column::Chunked+Column::cut-returns-in-Empty-clause-rise g t c =
+    rise_plan c.args.self.now c.args.start c.args.end c.args.steps.now c.plan_slice-plan.new.steps c.plan_slice-plan.ensures.rise
+
+pub column::Chunked+Column::cut-returns-in-One-clause-ok : goal.column::Chunked+Column::cut-returns-in-One-clause-ok
+column::Chunked+Column::cut-returns-in-One-clause-ok g t c =
+    let self = c.args.self.now in
+    let at = c.in-One in
+    let span = at.ensures.plan.1 in
+    let same = c.children-chunks.ensures.value in
+    let x = c.index-chunks-chunk.result in
+    let at_x = same_at c.children-chunks.result.now self.chunks at.chunk x same c.index-chunks-chunk.is in
+    IfOk-weaker c.cut.result (λ part. IsSliceOf x part at.start at.end) (λ part. IsSliceOf (column.Chunked self) part c.args.start c.args.end)
+    (λ part slice. cut_one self c.args.start c.args.end at.chunk at.start at.chunk at.end span refl at.ensures.plan.0.0 x at_x
+    (held_at (IsOf self.dtype) c.children-chunks.result.now at.chunk x c.children-chunks.ensures.types (omega (arith, span.within, length-map self.chunks len_of, ap length same)) c.index-chunks-chunk.is) part slice)
+    c.cut.ensures.ok
+
+pub column::Chunked+Column::cut-returns-in-One-clause-same : goal.column::Chunked+Column::cut-returns-in-One-clause-same
+column::Chunked+Column::cut-returns-in-One-clause-same g t c =
+    let self = c.args.self.now in
+    IfOk-weaker c.cut.result _ (λ part. IsWhole (column.Chunked self) c.args.start c.args.end → part ≡ column.Chunked self)
+    (λ part _ whole. absurd (not_whole self c.args.start c.args.end c.in-One.ensures.plan.0.1 whole)) c.cut.ensures.ok
+
+pub column::Chunked+Column::cut-returns-in-One-clause-rise : goal.column::Chunked+Column::cut-returns-in-One-clause-rise
+column::Chunked+Column::cut-returns-in-One-clause-rise g t c =
+    let self = c.args.self.now in
+    let at = c.in-One in
+    let span = at.ensures.plan.1 in
+    let same = c.children-chunks.ensures.value in
+    let x = c.index-chunks-chunk.result in
+    let at_x = same_at c.children-chunks.result.now self.chunks at.chunk x same c.index-chunks-chunk.is in
+    rise_inside self c.args.start c.args.end at.chunk at.start at.chunk at.end span refl x at_x c.args.steps.now c.plan_slice-plan.new.steps c.cut.new.steps c.plan_slice-plan.ensures.rise c.cut.ensures.rise
+
+pub column::Chunked+Column::cut-returns-in_err-front-in-Many-clause-rise : goal.column::Chunked+Column::cut-returns-in_err-front-in-Many-clause-rise
+column::Chunked+Column::cut-returns-in_err-front-in-Many-clause-rise g t c =
+    let self = c.args.self.now in
+    let at = c.in-Many in
+    let span = at.ensures.plan.2 in
+    let same = c.children-chunks.ensures.value in
+    let x = c.index-chunks-first.result in
+    let at_x = same_at c.children-chunks.result.now self.chunks at.first x same c.index-chunks-first.is in
+    let y = c.index-chunks-last.result in
+    let at_y = same_at c.children-chunks.result.now self.chunks at.last y same c.index-chunks-last.is in
+    let front : c.cut-in-Many.new.steps ≤ c.plan_slice-plan.new.steps + ends_cut at.first_start (len_of x) (len_of x) * cut_cost x =
+    subst (λ n. c.cut-in-Many.new.steps ≤ c.plan_slice-plan.new.steps + ends_cut at.first_start n (len_of x) * cut_cost x) c.len.ensures c.cut-in-Many.ensures.rise in
+    rise_front self c.args.start c.args.end at.first at.first_start at.last at.last_end span x y at_x at_y c.args.steps.now c.plan_slice-plan.new.steps c.cut-in-Many.new.steps c.plan_slice-plan.ensures.rise front
+
+pub column::Chunked+Column::cut-returns-in_err-back-in-Many-clause-rise : goal.column::Chunked+Column::cut-returns-in_err-back-in-Many-clause-rise
+column::Chunked+Column::cut-returns-in_err-back-in-Many-clause-rise g t c =
+    let self = c.args.self.now in
+    let at = c.in-Many in
+    let span = at.ensures.plan.2 in
+    let same = c.children-chunks.ensures.value in
+    let x = c.index-chunks-first.result in
+    let at_x = same_at c.children-chunks.result.now self.chunks at.first x same c.index-chunks-first.is in
+    let y = c.index-chunks-last.result in
+    let at_y = same_at c.children-chunks.result.now self.chunks at.last y same c.index-chunks-last.is in
+    let front : c.cut-in-Many.new.steps ≤ c.plan_slice-plan.new.steps + ends_cut at.first_start (len_of x) (len_of x) * cut_cost x =
+    subst (λ n. c.cut-in-Many.new.steps ≤ c.plan_slice-plan.new.steps + ends_cut at.first_start n (len_of x) * cut_cost x) c.len.ensures c.cut-in-Many.ensures.rise in
+    rise_across self c.args.start c.args.end at.first at.first_start at.last at.last_end span x y at_x at_y c.args.steps.now c.plan_slice-plan.new.steps c.cut-in-Many.new.steps c.cut-in-Many-2.new.steps
+    c.plan_slice-plan.ensures.rise front c.cut-in-Many-2.ensures.rise
+
+pub column::Chunked+Column::cut-returns-in_err-array-in-Many-clause-rise : goal.column::Chunked+Column::cut-returns-in_err-array-in-Many-clause-rise
+column::Chunked+Column::cut-returns-in_err-array-in-Many-clause-rise g t c =
+    let self = c.args.self.now in
+    let at = c.in-Many in
+    let span = at.ensures.plan.2 in
+    let same = c.children-chunks.ensures.value in
+    let x = c.index-chunks-first.result in
+    let at_x = same_at c.children-chunks.result.now self.chunks at.first x same c.index-chunks-first.is in
+    let y = c.index-chunks-last.result in
+    let at_y = same_at c.children-chunks.result.now self.chunks at.last y same c.index-chunks-last.is in
+    let front : c.cut-in-Many.new.steps ≤ c.plan_slice-plan.new.steps + ends_cut at.first_start (len_of x) (len_of x) * cut_cost x =
+    subst (λ n. c.cut-in-Many.new.steps ≤ c.plan_slice-plan.new.steps + ends_cut at.first_start n (len_of x) * cut_cost x) c.len.ensures c.cut-in-Many.ensures.rise in
+    rise_across self c.args.start c.args.end at.first at.first_start at.last at.last_end span x y at_x at_y c.args.steps.now c.plan_slice-plan.new.steps c.cut-in-Many.new.steps c.cut-in-Many-2.new.steps
+    c.plan_slice-plan.ensures.rise front c.cut-in-Many-2.ensures.rise
+
+pub column::Chunked+Column::cut-returns-in_ok-array-in-Many-clause-rise : goal.column::Chunked+Column::cut-returns-in_ok-array-in-Many-clause-rise
+column::Chunked+Column::cut-returns-in_ok-array-in-Many-clause-rise g t c =
+    let self = c.args.self.now in
+    let at = c.in-Many in
+    let span = at.ensures.plan.2 in
+    let same = c.children-chunks.ensures.value in
+    let x = c.index-chunks-first.result in
+    let at_x = same_at c.children-chunks.result.now self.chunks at.first x same c.index-chunks-first.is in
+    let y = c.index-chunks-last.result in
+    let at_y = same_at c.children-chunks.result.now self.chunks at.last y same c.index-chunks-last.is in
+    let front : c.cut-in-Many.new.steps ≤ c.plan_slice-plan.new.steps + ends_cut at.first_start (len_of x) (len_of x) * cut_cost x =
+    subst (λ n. c.cut-in-Many.new.steps ≤ c.plan_slice-plan.new.steps + ends_cut at.first_start n (len_of x) * cut_cost x) c.len.ensures c.cut-in-Many.ensures.rise in
+    rise_across self c.args.start c.args.end at.first at.first_start at.last at.last_end span x y at_x at_y c.args.steps.now c.plan_slice-plan.new.steps c.cut-in-Many.new.steps c.cut-in-Many-2.new.steps
+    c.plan_slice-plan.ensures.rise front c.cut-in-Many-2.ensures.rise
+
+pub column::Chunked+Column::cut-join-requires-clause-sound : goal.column::Chunked+Column::cut-join-requires-clause-sound
+column::Chunked+Column::cut-join-requires-clause-sound g t c =
+    let at = c.in-Many in
+    all_round IsSound c.in_ok-front-in-Many.front (slice_range c.children-chunks.result.now (at.first + 1) at.last) c.in_ok-back-in-Many.back c.in_ok-front-in-Many.ensures.ok.sound
+    (All-take IsSound (at.last - (at.first + 1)) _ (All-drop IsSound (at.first + 1) _ c.children-chunks.ensures.sound)) c.in_ok-back-in-Many.ensures.ok.sound
+
+pub column::Chunked+Column::cut-join-requires-clause-types : goal.column::Chunked+Column::cut-join-requires-clause-types
+column::Chunked+Column::cut-join-requires-clause-types g t c =
+    let self = c.args.self.now in
+    let at = c.in-Many in
+    let span = at.ensures.plan.2 in
+    let same = c.children-chunks.ensures.value in
+    let all = c.children-chunks.result.now in
+    let P = IsOf self.dtype in
+    let x = c.index-chunks-first.result in
+    let y = c.index-chunks-last.result in
+    let in_x : at.first < length all = omega (arith, span.ordered, span.within, length-map self.chunks len_of, ap length same) in
+    let in_y : at.last < length all = omega (arith, span.within, length-map self.chunks len_of, ap length same) in
+    all_round P c.in_ok-front-in-Many.front (slice_range all (at.first + 1) at.last) c.in_ok-back-in-Many.back
+    (c.in_ok-front-in-Many.ensures.ok.dtype ∙ held_at P all at.first x c.children-chunks.ensures.types in_x c.index-chunks-first.is)
+    (All-take P (at.last - (at.first + 1)) _ (All-drop P (at.first + 1) _ c.children-chunks.ensures.types))
+    (c.in_ok-back-in-Many.ensures.ok.dtype ∙ held_at P all at.last y c.children-chunks.ensures.types in_y c.index-chunks-last.is)
+
+pub column::Chunked+Column::cut-join-requires-clause-fits : goal.column::Chunked+Column::cut-join-requires-clause-fits
+column::Chunked+Column::cut-join-requires-clause-fits g t c =
+    let self = c.args.self.now in
+    let at = c.in-Many in
+    let span = at.ensures.plan.2 in
+    let same = c.children-chunks.ensures.value in
+    let x = c.index-chunks-first.result in
+    let at_x = same_at c.children-chunks.result.now self.chunks at.first x same c.index-chunks-first.is in
+    let y = c.index-chunks-last.result in
+    let at_y = same_at c.children-chunks.result.now self.chunks at.last y same c.index-chunks-last.is in
+    let mid = ap (λ (ys : List Column). slice_range ys (at.first + 1) at.last) same in
+    let m = slice_range c.children-chunks.result.now (at.first + 1) at.last in
+    let kept_front = c.in_ok-front-in-Many.front in
+    let kept_back = c.in_ok-back-in-Many.back in
+    let front : IsSliceOf x kept_front at.first_start (len_of x) = subst (IsSliceOf x kept_front at.first_start) c.len.ensures c.in_ok-front-in-Many.ensures.ok in
+    omega (arith, fits_many self c.args.start c.args.end at.first at.first_start at.last at.last_end span at.ensures.plan.1 x y m at_x at_y mid kept_front kept_back front c.in_ok-back-in-Many.ensures.ok)
+
+pub column::Chunked+Column::cut-returns-in_ok-array-in-Many-clause-ok : goal.column::Chunked+Column::cut-returns-in_ok-array-in-Many-clause-ok
+column::Chunked+Column::cut-returns-in_ok-array-in-Many-clause-ok g t c =
+    let self = c.args.self.now in
+    let at = c.in-Many in
+    let span = at.ensures.plan.2 in
+    let same = c.children-chunks.ensures.value in
+    let x = c.index-chunks-first.result in
+    let at_x = same_at c.children-chunks.result.now self.chunks at.first x same c.index-chunks-first.is in
+    let y = c.index-chunks-last.result in
+    let at_y = same_at c.children-chunks.result.now self.chunks at.last y same c.index-chunks-last.is in
+    let mid = ap (λ (ys : List Column). slice_range ys (at.first + 1) at.last) same in
+    let m = slice_range c.children-chunks.result.now (at.first + 1) at.last in
+    let kept_front = c.in_ok-front-in-Many.front in
+    let kept_back = c.in_ok-back-in-Many.back in
+    let front : IsSliceOf x kept_front at.first_start (len_of x) = subst (IsSliceOf x kept_front at.first_start) c.len.ensures c.in_ok-front-in-Many.ensures.ok in
+    cut_many self c.in_ok-array-in-Many.array c.args.start c.args.end at.first at.first_start at.last at.last_end span at.ensures.plan.1 x y m at_x at_y mid kept_front kept_back front c.in_ok-back-in-Many.ensures.ok
+    c.in_ok-array-in-Many.ensures.sound c.in_ok-array-in-Many.ensures.chunks.0 c.in_ok-array-in-Many.ensures.chunks.1
+
+pub column::Chunked+Column::cut-returns-in_ok-array-in-Many-clause-same : goal.column::Chunked+Column::cut-returns-in_ok-array-in-Many-clause-same
+column::Chunked+Column::cut-returns-in_ok-array-in-Many-clause-same g t c whole =
+    absurd (not_whole c.args.self.now c.args.start c.args.end c.in-Many.ensures.plan.0.1 whole)
+
+pub column::Column::cut-returns-in_ok-rows-in-Flat-clause-ok : goal.column::Column::cut-returns-in_ok-rows-in-Flat-clause-ok
+column::Column::cut-returns-in_ok-rows-in-Flat-clause-ok g t c =
+    flat_slice c.args.self.now c.in-Flat.rows c.in_ok-rows-in-Flat.rows c.args.start c.args.end c.in-Flat.is c.in_ok-rows-in-Flat.ensures.ok
+
+pub column::Column::cut-returns-in_ok-rows-in-Flat-clause-same : goal.column::Column::cut-returns-in_ok-rows-in-Flat-clause-same
+column::Column::cut-returns-in_ok-rows-in-Flat-clause-same g t c whole =
+    flat_same c.args.self.now c.in-Flat.rows c.in_ok-rows-in-Flat.rows c.args.start c.args.end c.in-Flat.is c.in_ok-rows-in-Flat.ensures.ok whole
+
+pub excepted::Excepted+Column::cut-returns-then-is_whole-clause-ok : goal.excepted::Excepted+Column::cut-returns-then-is_whole-clause-ok
+excepted::Excepted+Column::cut-returns-then-is_whole-clause-ok g t c =
+    let whole = c.is_whole.ensures.0 c.if-is_whole.true in
+    whole_slice (column.Excepted c.args.self.now) _ c.args.start c.args.end (ap column.Excepted c.in_ok-same.ensures.ok) c.requires.sound whole.0 whole.1
+
+pub excepted::Excepted+Column::cut-returns-in_err-base-clause-rise : goal.excepted::Excepted+Column::cut-returns-in_err-base-clause-rise
+excepted::Excepted+Column::cut-returns-in_err-base-clause-rise g t c =
+    let rise = subst (λ (x : Column). c.cut.new.steps ≤ c.kept.new.steps + ends_cut c.args.start c.args.end (len_of x) * cut_cost x) c.base.ensures.value c.cut.ensures.rise in
+    rise_base c.args.self.now c.args.start c.args.end c.args.steps.now c.kept.new.steps c.cut.new.steps c.kept.ensures.rise rise
+
+pub excepted::Excepted+Column::cut-returns-in_default-clause-ok : goal.excepted::Excepted+Column::cut-returns-in_default-clause-ok
+excepted::Excepted+Column::cut-returns-in_default-clause-ok g t c =
+    let self = c.args.self.now in
+    let base = subst (λ (x : Column). IsSliceOf x c.in_ok-base.base c.args.start c.args.end) c.base.ensures.value c.in_ok-base.ensures.ok in
+    cut_none self c.args.start c.args.end c.requires.sound (subst (IsKeptOf self c.args.start c.args.end) c.in_default.is c.in_ok-kept.ensures.ok) c.in_ok-base.base base
+
+pub excepted::Excepted+Column::cut-returns-in_default-clause-rise : goal.excepted::Excepted+Column::cut-returns-in_default-clause-rise
+excepted::Excepted+Column::cut-returns-in_default-clause-rise g t c =
+    let rise = subst (λ (x : Column). c.cut.new.steps ≤ c.kept.new.steps + ends_cut c.args.start c.args.end (len_of x) * cut_cost x) c.base.ensures.value c.cut.ensures.rise in
+    rise_base c.args.self.now c.args.start c.args.end c.args.steps.now c.kept.new.steps c.cut.new.steps c.kept.ensures.rise rise
+
+pub excepted::Excepted+Column::cut-returns-in_err-values-clause-rise : goal.excepted::Excepted+Column::cut-returns-in_err-values-clause-rise
+excepted::Excepted+Column::cut-returns-in_err-values-clause-rise g t c =
+    let self = c.args.self.now in
+    let places = c.in-Some.places in
+    let kept = subst (IsKeptOf self c.args.start c.args.end) c.in-Some.is c.in_ok-kept.ensures.ok in
+    let base = subst (λ (x : Column). c.cut.new.steps ≤ c.kept.new.steps + ends_cut c.args.start c.args.end (len_of x) * cut_cost x) c.base.ensures.value c.cut.ensures.rise in
+    let values = subst (λ (x : Column). c.cut-2.new.steps ≤ c.cut.new.steps + ends_cut places.start places.end (len_of x) * cut_cost x) c.values-values.ensures.value c.cut-2.ensures.rise in
+    rise_values self c.in-Some.index c.args.start c.args.end places.start places.end c.requires.sound kept.0 c.args.steps.now c.kept.new.steps c.cut.new.steps c.cut-2.new.steps c.kept.ensures.rise base values
+
+pub excepted::Excepted+Column::cut-of-requires-clause-kinds : goal.excepted::Excepted+Column::cut-of-requires-clause-kinds
+excepted::Excepted+Column::cut-of-requires-clause-kinds g t c =
+    let self = c.args.self.now in
+    let places = c.in-Some.places in
+    let kept = subst (IsKeptOf self c.args.start c.args.end) c.in-Some.is c.in_ok-kept.ensures.ok in
+    let base = subst (λ (x : Column). IsSliceOf x c.in_ok-base.base c.args.start c.args.end) c.base.ensures.value c.in_ok-base.ensures.ok in
+    let values = subst (λ (x : Column). IsSliceOf x c.in_ok-values.values places.start places.end) c.values-values.ensures.value c.in_ok-values.ensures.ok in
+    cut_kinds self c.in-Some.index c.args.start c.args.end places.start places.end c.requires.sound c.requires.ordered c.requires.inside kept.0 c.in_ok-base.base c.in_ok-values.values base values
+
+pub excepted::Excepted+Column::cut-returns-in_err-array-clause-rise : goal.excepted::Excepted+Column::cut-returns-in_err-array-clause-rise
+excepted::Excepted+Column::cut-returns-in_err-array-clause-rise g t c =
+    let self = c.args.self.now in
+    let places = c.in-Some.places in
+    let kept = subst (IsKeptOf self c.args.start c.args.end) c.in-Some.is c.in_ok-kept.ensures.ok in
+    let base = subst (λ (x : Column). c.cut.new.steps ≤ c.kept.new.steps + ends_cut c.args.start c.args.end (len_of x) * cut_cost x) c.base.ensures.value c.cut.ensures.rise in
+    let values = subst (λ (x : Column). c.cut-2.new.steps ≤ c.cut.new.steps + ends_cut places.start places.end (len_of x) * cut_cost x) c.values-values.ensures.value c.cut-2.ensures.rise in
+    rise_values self c.in-Some.index c.args.start c.args.end places.start places.end c.requires.sound kept.0 c.args.steps.now c.kept.new.steps c.cut.new.steps c.cut-2.new.steps c.kept.ensures.rise base values
+
+pub excepted::Excepted+Column::cut-returns-clause-ok : goal.excepted::Excepted+Column::cut-returns-clause-ok
+excepted::Excepted+Column::cut-returns-clause-ok g t c =
+    let self = c.args.self.now in
+    let places = c.in-Some.places in
+    let kept = subst (IsKeptOf self c.args.start c.args.end) c.in-Some.is c.in_ok-kept.ensures.ok in
+    let base = subst (λ (x : Column). IsSliceOf x c.in_ok-base.base c.args.start c.args.end) c.base.ensures.value c.in_ok-base.ensures.ok in
+    let values = subst (λ (x : Column). IsSliceOf x c.in_ok-values.values places.start places.end) c.values-values.ensures.value c.in_ok-values.ensures.ok in
+    cut_some self c.in_ok-array.array c.in-Some.index c.args.start c.args.end places.start places.end c.requires.sound c.requires.ordered c.requires.inside kept.0 c.in_ok-base.base c.in_ok-values.values base values
+    c.in_ok-array.ensures.base c.in_ok-array.ensures.index c.in_ok-array.ensures.values c.in_ok-array.ensures.sound
+
+pub excepted::Excepted+Column::cut-returns-clause-rise : goal.excepted::Excepted+Column::cut-returns-clause-rise
+excepted::Excepted+Column::cut-returns-clause-rise g t c =
+    let self = c.args.self.now in
+    let places = c.in-Some.places in
+    let kept = subst (IsKeptOf self c.args.start c.args.end) c.in-Some.is c.in_ok-kept.ensures.ok in
+    let base = subst (λ (x : Column). c.cut.new.steps ≤ c.kept.new.steps + ends_cut c.args.start c.args.end (len_of x) * cut_cost x) c.base.ensures.value c.cut.ensures.rise in
+    let values = subst (λ (x : Column). c.cut-2.new.steps ≤ c.cut.new.steps + ends_cut places.start places.end (len_of x) * cut_cost x) c.values-values.ensures.value c.cut-2.ensures.rise in
+    rise_values self c.in-Some.index c.args.start c.args.end places.start places.end c.requires.sound kept.0 c.args.steps.now c.kept.new.steps c.cut.new.steps c.cut-2.new.steps c.kept.ensures.rise base values
+
+pub patched::Patched+Column::cut-returns-then-is_whole-clause-ok : goal.patched::Patched+Column::cut-returns-then-is_whole-clause-ok
+patched::Patched+Column::cut-returns-then-is_whole-clause-ok g t c =
+    let whole = c.is_whole.ensures.0 c.if-is_whole.true in
+    whole_slice (column.Patched c.args.self.now) _ c.args.start c.args.end (ap column.Patched c.in_ok-same.ensures.ok) c.requires.sound whole.0 whole.1
+
+pub patched::Patched+Column::cut-of-requires-clause-kinds : goal.patched::Patched+Column::cut-of-requires-clause-kinds
+patched::Patched+Column::cut-of-requires-clause-kinds g t c =
+    let self = c.args.self.now in
+    let s = c.args.start in
+    let e = c.args.end in
+    let made = c.in_ok-lanes.ensures.ok ∙ ap (λ (l : Layout). layout_slice l s e) c.lanes.ensures.value in
+    let lanes = subst (λ (l : Layout). IsLaneCut self.lanes l s e) (sym made) (lanes_slice self.lanes s e (lanes_here self c.requires.sound).sound c.requires.ordered (omega (arith, c.requires.inside, layout_long self c.requires.sound))) in
+    let inner = subst (λ (x : Column). IsSliceOf x c.in_ok-inner.inner s e) c.inner.ensures.value c.in_ok-inner.ensures.ok in
+    lane_kinds self c.in_ok-lanes.lanes s e c.requires.sound c.requires.ordered c.requires.inside lanes c.in_ok-inner.inner inner
+
+pub patched::Patched+Column::cut-returns-clause-ok : goal.patched::Patched+Column::cut-returns-clause-ok
+patched::Patched+Column::cut-returns-clause-ok g t c =
+    let self = c.args.self.now in
+    let s = c.args.start in
+    let e = c.args.end in
+    let made = c.in_ok-lanes.ensures.ok ∙ ap (λ (l : Layout). layout_slice l s e) c.lanes.ensures.value in
+    let lanes = subst (λ (l : Layout). IsLaneCut self.lanes l s e) (sym made) (lanes_slice self.lanes s e (lanes_here self c.requires.sound).sound c.requires.ordered (omega (arith, c.requires.inside, layout_long self c.requires.sound))) in
+    let inner = subst (λ (x : Column). IsSliceOf x c.in_ok-inner.inner s e) c.inner.ensures.value c.in_ok-inner.ensures.ok in
+    cut_lanes self c.in_ok-array.array c.in_ok-lanes.lanes s e c.requires.sound lanes c.in_ok-inner.inner inner c.in_ok-array.ensures.inner c.in_ok-array.ensures.lanes c.in_ok-array.ensures.sound

@@ -1,0 +1,242 @@
+//! A column woven of the rows of several values.
+ghost use Rattle.std.specs.Prelude.{◌≡◌, ◌+◌, [], ◌^◌, ◌-◌, ◌<◌, ◌≤◌, ◌↔◌, length, map, min, get_or, slice_get, Some, None, is_some};
+ghost use Rattle.std.specs.Prelude.{IfOk, OnOk, IfErr, IsOk, IsOkUnless, IsTrue, IsFalse, All};
+ghost use Rattle.vx_rows.specs.Sizes.{type_takes_memory};
+ghost use Rattle.vx_interleave.specs.Selections.{selection};
+ghost use Rattle.vx_column.specs.Kinds.{AreWovenKinds};
+ghost use Rattle.vx_column.specs.Faults.{IsWovenFault, MadeCause};
+ghost use Rattle.vx_column.specs.Columns.{IsSound, IsSliceOf, IsWhole, type_of, rows_of, len_of, point_cost, woven_of, selectors_of};
+ghost use Rattle.vx_column.specs.declared.column.Column.TheVariants.{Interleave as interleave_column};
+
+use crate::column::Column;
+use crate::kinds::{are_alike, are_scalar, lens_of, malformed, unsupported, woven_type};
+use std::alloc::Global;
+use vx_base::{ColumnError, DType, FlatColumn, Ledger, Res, Row, Rule, Seq, Shared, Steps};
+use vx_interleave::Selectors;
+
+/// Values, of which each row is one that the selectors name. Generic in the child, as a chunked column is.
+#[derive(Drop)]
+pub struct Interleave<C> {
+    dtype: DType,
+    selectors: Selectors,
+    values: Shared<Seq<C>>,
+}
+
+/// A column woven of values that are columns.
+pub type InterleaveArray = Interleave<Column>;
+
+/// The woven type and the selectors of these values, where no rule is broken.
+fn checked(
+    alloc: Global,
+    values: &[Column],
+    array_indices: FlatColumn,
+    row_indices: FlatColumn,
+) -> Res<(DType, Selectors)>
+    requires { All IsSound values.now }
+    ensures selectors { IfOk result (λ p. p.1 ≡ selection array_indices row_indices) }
+    ensures kinds { IfOk result (λ p. AreWovenKinds p.1 p.0 (map type_of values.now) (map len_of values.now)) }
+    ensures clean { OnOk result (IsWovenFault (map type_of values.now) (map len_of values.now) array_indices row_indices None) }
+    ensures err { IfErr result (MadeCause
+        (IsWovenFault (map type_of values.now) (map len_of values.now) array_indices row_indices)) }
+{
+    let alike = are_alike(values);
+    if !are_scalar(values) {
+        return Err(unsupported(alloc));
+    }
+    if values.len() < 2 {
+        return Err(malformed(alloc, Rule::TooFewValues));
+    }
+    if !alike {
+        return Err(malformed(alloc, Rule::ValueTypes));
+    }
+    let lens = lens_of(alloc, values)?;
+    let selectors = Selectors::try_new(alloc, array_indices, row_indices, lens.as_slice())?;
+    let dtype = woven_type(values)?;
+    Ok((dtype, selectors))
+}
+
+impl Interleave<Column> {
+    /// Row i is row `row_indices[i]` of value `array_indices[i]`. The type is the first value's, nullable where any is.
+    /// Refuses `Unsupported` where a value holds neither booleans nor integers, or else by the first rule that is broken.
+    pub fn try_new(
+        alloc: Global,
+        values: Vec<Column>,
+        array_indices: FlatColumn,
+        row_indices: FlatColumn,
+    ) -> Res<InterleaveArray>
+        requires { All IsSound values.items }
+        ensures values { IfOk result (λ array. woven_of array ≡ values.items) }
+        ensures selectors { IfOk result (λ array. selectors_of array ≡ selection array_indices row_indices) }
+        ensures sound { IfOk result (λ array. IsSound (interleave_column array)) }
+        ensures clean { OnOk result (IsWovenFault (map type_of values.items) (map len_of values.items) array_indices row_indices None) }
+        ensures err { IfErr result (MadeCause
+            (IsWovenFault (map type_of values.items) (map len_of values.items) array_indices row_indices)) }
+    {
+        let (dtype, selectors) = checked(alloc, values.as_slice(), array_indices, row_indices)?;
+        Interleave::of(alloc, dtype, selectors, values)
+    }
+
+    fn of(
+        alloc: Global,
+        dtype: DType,
+        selectors: Selectors,
+        values: Vec<Column>,
+    ) -> Res<InterleaveArray>
+        requires sound { All IsSound values.items }
+        requires kinds { AreWovenKinds selectors dtype (map type_of values.items) (map len_of values.items) }
+        ensures values { IfOk result (λ array. woven_of array ≡ values.items) }
+        ensures selectors { IfOk result (λ array. selectors_of array ≡ selectors) }
+        ensures sound { IfOk result (λ array. IsSound (interleave_column array)) }
+        ensures err { IsOkUnless result ColumnError.OutOfMemory }
+    {
+        let values = Shared::new(alloc, Seq::from_vec(values))?;
+        Ok(Interleave {
+            dtype,
+            selectors,
+            values,
+        })
+    }
+
+    /// Another handle on the same parts.
+    pub fn share(&self) -> Res<InterleaveArray>
+        ensures ok { IfOk result (λ other. other ≡ self.now) }
+        ensures err { IsOkUnless result ColumnError.OutOfMemory }
+    {
+        let dtype = self.dtype.copy()?;
+        let selectors = self.selectors.share()?;
+        let values = self.values.copy()?;
+        Ok(Interleave {
+            dtype,
+            selectors,
+            values,
+        })
+    }
+
+    /// The number of values.
+    pub fn num_values(&self) -> usize
+        ensures { result ≡ length (woven_of self.now) }
+    {
+        self.values.get().len()
+    }
+
+    /// A value.
+    pub fn value(&self, idx: usize) -> &Column
+        requires sound { IsSound (interleave_column self.now) }
+        requires inside { idx < length (woven_of self.now) }
+        ensures value { slice_get (woven_of self.now) idx ≡ Some result.now }
+        ensures sound { IsSound result.now }
+    {
+        &self.children()[idx]
+    }
+
+    /// The number of the value that each row comes from.
+    pub fn array_indices(&self) -> &FlatColumn
+        ensures { result.now ≡ (selectors_of self.now).array_indices }
+    {
+        self.selectors.array_indices()
+    }
+
+    /// The number of the row that it is there.
+    pub fn row_indices(&self) -> &FlatColumn
+        ensures { result.now ≡ (selectors_of self.now).row_indices }
+    {
+        self.selectors.row_indices()
+    }
+
+    /// The type of the rows.
+    pub(crate) fn dtype(&self) -> &DType
+        ensures { result.now ≡ type_of (interleave_column self.now) }
+    {
+        &self.dtype
+    }
+
+    /// The number of rows.
+    pub(crate) fn len(&self) -> usize
+        requires { IsSound (interleave_column self.now) }
+        ensures { result ≡ len_of (interleave_column self.now) }
+    {
+        self.selectors.len()
+    }
+
+    /// The values in order.
+    fn children(&self) -> &[Column]
+        requires { IsSound (interleave_column self.now) }
+        ensures value { result.now ≡ woven_of self.now }
+        ensures sound { All IsSound result.now }
+    {
+        self.values.get().as_slice()
+    }
+
+    /// Rows `start` to below `end`, of the same values. Reads nothing.
+    pub(crate) fn cut(&self, start: usize, end: usize) -> Res<Column>
+        requires sound { IsSound (interleave_column self.now) }
+        requires ordered { start ≤ end }
+        requires inside { end ≤ len_of (interleave_column self.now) }
+        ensures ok { IfOk result (λ part. IsSliceOf (interleave_column self.now) part start end) }
+        ensures same { IfOk result (λ part.
+            IsWhole (interleave_column self.now) start end → part ≡ interleave_column self.now) }
+        ensures err { IsOkUnless result ColumnError.OutOfMemory }
+    {
+        let dtype = self.dtype.copy()?;
+        let selectors = self.selectors.window(start..end)?;
+        let values = self.values.copy()?;
+        Ok(Column::Interleave(Interleave {
+            dtype,
+            selectors,
+            values,
+        }))
+    }
+
+    #[cycle(row)]
+    pub(crate) fn row<L: Ledger>(&self, alloc: Global, at: usize, steps: &mut Steps<L>) -> Res<Row>
+        requires sound { IsSound (interleave_column self.now) }
+        requires inside { at < len_of (interleave_column self.now) }
+        ensures ok { IfOk result (λ row. row ≡ get_or (rows_of (interleave_column self.now)) at None) }
+        ensures err { IsOkUnless result ColumnError.OutOfMemory }
+        ensures free { IsFalse (type_takes_memory (type_of (interleave_column self.now))) → IsOk result }
+        ensures rise { steps.new ≤ steps.old + point_cost (interleave_column self.now) }
+        ensures kept { steps.old ≤ steps.new }
+    {
+        let (value, row) = self.named(at, steps);
+        let values = self.children();
+        values[value].row(alloc, row, steps)
+    }
+
+    #[cycle(is_valid)]
+    pub(crate) fn is_valid<L: Ledger>(&self, at: usize, steps: &mut Steps<L>) -> bool
+        requires sound { IsSound (interleave_column self.now) }
+        requires inside { at < len_of (interleave_column self.now) }
+        ensures value { result ≡ is_some (get_or (rows_of (interleave_column self.now)) at None) }
+        ensures rise { steps.new ≤ steps.old + point_cost (interleave_column self.now) }
+        ensures kept { steps.old ≤ steps.new }
+    {
+        let (value, row) = self.named(at, steps);
+        let values = self.children();
+        values[value].is_valid(row, steps)
+    }
+
+    /// The value that row `at` comes from, and the row that it is there. Raises the steps by two.
+    fn named<L: Ledger>(&self, at: usize, steps: &mut Steps<L>) -> (usize, usize)
+        requires sound { IsSound (interleave_column self.now) }
+        requires inside { at < len_of (interleave_column self.now) }
+        ensures value { result.0 < length (woven_of self.now) }
+        ensures inside { result.1 < get_or (map len_of (woven_of self.now)) result.0 0 }
+        ensures row { get_or (rows_of (interleave_column self.now)) at None
+            ≡ get_or (get_or (map rows_of (woven_of self.now)) result.0 []) result.1 None }
+        ensures cost { steps.new ≡ steps.old + 2 }
+    {
+        self.selectors.pair_at(at, steps)
+    }
+
+    #[cycle(point_cost)]
+    pub(crate) fn point_cost(&self) -> u64
+        requires { IsSound (interleave_column self.now) }
+        ensures { result ≡ min (point_cost (interleave_column self.now)) (2 ^ 64 - 1) }
+    {
+        let mut greatest = 0;
+        for value in self.children() {
+            greatest = value.point_cost().max(greatest);
+        }
+        2u64.saturating_add(greatest)
+    }
+}

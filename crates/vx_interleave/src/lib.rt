@@ -1,0 +1,12 @@
+//! Selectors of interleaved columns: which row of which value stands at each row.
+#![tactic(auto)]
+
+pub mod data;
+mod numbers;
+mod rules;
+pub mod selectors;
+#[cfg(test)]
+mod tests;
+
+pub use data::InterleaveData;
+pub use selectors::{Selectors, check_selectors};

@@ -1,0 +1,140 @@
+-- Why parts aren't opened: the faults of the parts, by those that their columns tell.
+use Rattle.std.proofs.Common.{◌≡◌, ◌⊎◌, inl, inr, ℕ, ◌+◌, ◌≤◌, ◌<◌, ◌^◌, List, [], ◌∷◌, ◌++◌, map, length, take, get_or, refl, sym, ◌∙◌, ap, subst, arith, Option, Some, IsTrue}
+use Rattle.std.specs.List.{All, AllByRecursion}
+use Rattle.std.proofs.lemmas.List.{length-append, take_at}
+use Rattle.std.proofs.lemmas.List.Elements.{All-from_recursion, recursion_from_All}
+use Rattle.vx_rows.specs.Fits.{row_fits}
+use Rattle.vx_base.specs.Column.{Flat, RefusesMisfit}
+use Rattle.vx_rows.specs.declared.dtype.DType.{DType}
+use Rattle.vx_rows.specs.declared.value.Value.{Value}
+use Rattle.vx_rows.specs.declared.error.ColumnError.{ColumnError}
+use Rattle.vx_rows.specs.declared.error.ColumnError.TheVariants.{OutOfMemory}
+use Rattle.vx_rows.specs.declared.error.Rule.TheVariants.{RowType, TooLong, ChunkType}
+use Rattle.vx_chunks.specs.Bounds.{total}
+use Rattle.vx_column.specs.Faults.{Fault, error_at, MadeCause, IsLanesFault, IsExceptionsFault, IsWovenFault}
+use Rattle.vx_column.specs.Faults.Fault.{Unsupported, Broken}
+use Rattle.vx_column.specs.Columns.{type_of, len_of, IsOf, ChunksCause}
+use Rattle.vx_column.specs.declared.column.Column.{Column}
+use Rattle.vx_plan.specs.Parts.{part_type, part_len, part_lane_cost, open_cost, IsPartOf, IsOwnFault, IsClean, children, OwnFault, At, FaultAt, IsFaultOf, IsFaultUnder, IsFaultIn, Within, IsOpened, AreOpened}
+use Rattle.vx_plan.specs.declared.part.Part.{Part, out-Part}
+use Rattle.vx_plan.specs.declared.part.Part.TheOpen.{Part-F}
+use Rattle.vx_plan.specs.declared.part.Part.TheVariants.{outs-Constant, outs-Chunked, outs-Lanes, outs-Excepted, outs-Interleaved}
+use Rattle.vx_plan.specs.declared.part.Part.TheVariants as part
+use Rattle.vx_plan.proofs.Opened.{lens_same, parts_clean, types_up, lanes_down, exceptions_down, woven_down}
+
+-- ---- a fault of the part's own
+
+-- of a layer over clean parts
+own_told : (self : Part) (y : Part-F Part) (e : ColumnError) → out-Part self ≡ y → AllByRecursion IsClean (children y) → MadeCause (λ f. IsOwnFault y f) e → IsFaultOf self e
+own_told self y e is clean (inl memory) = inl memory
+own_told self y e is clean (inr (f, same, own)) = inr ([], f, same, subst (OwnFault f) (sym is) (All-from_recursion IsClean (children y) clean, own))
+
+pub fault_constant : (self : Part) (t : DType) (r : Option Value) (n : ℕ) (e : ColumnError) → self ≡ part.Constant t r n → RefusesMisfit (row_fits t r) e → IsFaultOf self e
+fault_constant self t r n e is cause = own_told self (Part-F.Constant t r n) e (ap out-Part is ∙ outs-Constant t r n) tt (made cause)
+  where
+    made : RefusesMisfit (row_fits t r) e → MadeCause (λ f. IsOwnFault (Part-F.Constant t r n) f) e
+    made (inl memory) = inl memory
+    made (inr misfit) = inr (Broken RowType, misfit.0, (refl, misfit.1))
+
+pub fault_chunked : (self : Part) (t : DType) (ps : List Part) (cs : List Column) (e : ColumnError) → self ≡ part.Chunked t ps → AreOpened ps cs → ChunksCause t cs e → IsFaultOf self e
+fault_chunked self t ps cs e is o cause = own_told self (Part-F.Chunked t ps) e (ap out-Part is ∙ outs-Chunked t ps) (parts_clean ps cs o) (made cause)
+  where
+    made : ChunksCause t cs e → MadeCause (λ f. IsOwnFault (Part-F.Chunked t ps) f) e
+    made (inl memory) = inl memory
+    made (inr (inl long)) = inr (Broken TooLong, long.0, inl (refl, subst (λ ns. 2 ^ 64 ≤ total ns) (lens_same ps cs o) long.1))
+    made (inr (inr typed)) =
+        inr (
+          Broken ChunkType,
+          typed.0,
+          inr (
+            refl,
+            subst (λ ns. total ns < 2 ^ 64) (lens_same ps cs o) typed.1,
+            λ all. typed.2 (All-from_recursion (IsOf t) cs (types_up t ps cs o (recursion_from_All (IsPartOf t) ps all))),
+          ),
+        )
+
+-- a cause in other words
+cause_in : (P Q : Option Fault → Type 0) (e : ColumnError) → ((f : Option Fault) → P f → Q f) → MadeCause P e → MadeCause Q e
+cause_in P Q e h (inl memory) = inl memory
+cause_in P Q e h (inr (f, same, own)) = inr (f, same, h (Some f) own)
+
+pub fault_lanes : (self p : Part) (n o : ℕ) (lo is vs : Flat) (c : Column) (e : ColumnError) → self ≡ part.Lanes p n o lo is vs → IsOpened p c
+    → MadeCause (IsLanesFault (type_of c) (len_of c) n o lo is vs) e → IsFaultOf self e
+fault_lanes self p n o lo is vs c e at opened cause =
+    own_told self (Part-F.Lanes p n o lo is vs) e (ap out-Part at ∙ outs-Lanes p n o lo is vs) (opened.clean, tt)
+    (cause_in (IsLanesFault (type_of c) (len_of c) n o lo is vs) (IsLanesFault (part_type p) (part_len p) n o lo is vs) e (λ f. lanes_down p n o lo is vs c f opened) cause)
+
+pub fault_excepted : (self b : Part) (o : ℕ) (is : Flat) (v : Part) (co : Option Flat) (c d : Column) (e : ColumnError) → self ≡ part.Excepted b o is v co → IsOpened b c → IsOpened v d
+    → MadeCause (IsExceptionsFault (type_of c) (len_of c) o is (type_of d) (len_of d) co) e → IsFaultOf self e
+fault_excepted self b o is v co c d e at base values cause =
+    own_told self (Part-F.Excepted b o is v co) e (ap out-Part at ∙ outs-Excepted b o is v co) (base.clean, (values.clean, tt))
+    (cause_in (IsExceptionsFault (type_of c) (len_of c) o is (type_of d) (len_of d) co) (IsExceptionsFault (part_type b) (part_len b) o is (part_type v) (part_len v) co) e
+    (λ f. exceptions_down b o is v co c d f base values) cause)
+
+pub fault_interleaved : (self : Part) (ps : List Part) (ai ri : Flat) (cs : List Column) (e : ColumnError) → self ≡ part.Interleaved ps ai ri → AreOpened ps cs
+    → MadeCause (IsWovenFault (map type_of cs) (map len_of cs) ai ri) e → IsFaultOf self e
+fault_interleaved self ps ai ri cs e at o cause =
+    own_told self (Part-F.Interleaved ps ai ri) e (ap out-Part at ∙ outs-Interleaved ps ai ri) (parts_clean ps cs o)
+    (cause_in (IsWovenFault (map type_of cs) (map len_of cs) ai ri) (IsWovenFault (map part_type ps) (map part_len ps) ai ri) e (λ f. woven_down ps ai ri cs f o) cause)
+
+-- ---- a fault of a part within
+
+-- the refusal of a part, as the part that holds it tells
+pub fault_under : (n : ℕ) (x : Part) (e e' : ColumnError) → IsFaultOf x e → Within n e e' → IsFaultUnder n x e'
+fault_under n x e e' (inl memory) w = inl (subst (λ z. Within n z e') memory w)
+fault_under n x e e' (inr (path, f, same, at)) w = told f at (subst (λ z. Within n z e') same w)
+  where
+    by : (f : Fault) → FaultAt path f x → (e' ≡ OutOfMemory) ⊎ (e' ≡ error_at (n ∷ path) f) → IsFaultUnder n x e'
+    by f at (inl memory) = inl memory
+    by f at (inr same') = inr (path, f, same', at)
+
+    told : (f : Fault) → FaultAt path f x → Within n (error_at path f) e' → IsFaultUnder n x e'
+    told Unsupported at w = by Unsupported at w
+    told (Broken rule) at w = by (Broken rule) at w
+
+get_behind : (ps : List Part) (x : Part) (rest : List Part) (d : Part) → get_or (ps ++ (x ∷ rest)) (length ps) d ≡ x
+get_behind [] x rest d = refl
+get_behind (p ∷ ps) x rest d = get_behind ps x rest d
+
+at_behind : (F : Part → Type 0) (ps : List Part) (x : Part) (rest : List Part) → All IsClean ps → F x → At F (length ps) (ps ++ (x ∷ rest))
+at_behind F ps x rest clean f =
+    (omega (arith, length-append ps (x ∷ rest)), subst (All IsClean) (sym (take_at ps (x ∷ rest) (length ps) refl)) clean, λ d. subst F (sym (get_behind ps x rest d)) f)
+
+-- the fault of a part behind clean ones is the first fault of all
+fault_behind : (ps rest : List Part) (x : Part) (n : ℕ) (e : ColumnError) → AllByRecursion IsClean ps → n ≡ length ps → IsFaultUnder n x e → IsFaultIn (ps ++ (x ∷ rest)) e
+fault_behind ps rest x n e clean h (inl memory) = inl memory
+fault_behind ps rest x n e clean h (inr (path, f, same, at)) =
+    inr (n, path, f, same, subst (λ m. At (FaultAt path f) m (ps ++ (x ∷ rest))) (sym h) (at_behind (FaultAt path f) ps x rest (All-from_recursion IsClean ps clean) at))
+
+pub fault_in : (ps rest : List Part) (cs : List Column) (x : Part) (parts : List Part) (n : ℕ) (e : ColumnError) → ps ++ (x ∷ rest) ≡ parts → AreOpened ps cs → n ≡ length ps → IsFaultUnder n x e → IsFaultIn parts e
+fault_in ps rest cs x parts n e all o h under = subst (λ qs. IsFaultIn qs e) all (fault_behind ps rest x n e (parts_clean ps cs o) h under)
+
+-- the first fault of the parts within is that of the part
+within_told : (self : Part) (y : Part-F Part) (e : ColumnError) → out-Part self ≡ y → IsFaultIn (children y) e → IsFaultOf self e
+within_told self y e is (inl memory) = inl memory
+within_told self y e is (inr (k, path, f, same, at)) = inr (k ∷ path, f, same, subst (λ z. At (FaultAt path f) k (children z)) (sym is) at)
+
+pub within_chunked : (self : Part) (t : DType) (ps : List Part) (e : ColumnError) → self ≡ part.Chunked t ps → IsFaultIn ps e → IsFaultOf self e
+within_chunked self t ps e is = within_told self (Part-F.Chunked t ps) e (ap out-Part is ∙ outs-Chunked t ps)
+
+pub within_interleaved : (self : Part) (ps : List Part) (ai ri : Flat) (e : ColumnError) → self ≡ part.Interleaved ps ai ri → IsFaultIn ps e → IsFaultOf self e
+within_interleaved self ps ai ri e is = within_told self (Part-F.Interleaved ps ai ri) e (ap out-Part is ∙ outs-Interleaved ps ai ri)
+
+pub within_lanes : (self p : Part) (n o : ℕ) (lo is vs : Flat) (e : ColumnError) → self ≡ part.Lanes p n o lo is vs → IsFaultUnder 0 p e → IsFaultOf self e
+within_lanes self p n o lo is vs e at under =
+    within_told self (Part-F.Lanes p n o lo is vs) e (ap out-Part at ∙ outs-Lanes p n o lo is vs) (fault_behind [] [] p 0 e tt refl under)
+
+pub within_base : (self b : Part) (o : ℕ) (is : Flat) (v : Part) (co : Option Flat) (e : ColumnError) → self ≡ part.Excepted b o is v co → IsFaultUnder 0 b e → IsFaultOf self e
+within_base self b o is v co e at under =
+    within_told self (Part-F.Excepted b o is v co) e (ap out-Part at ∙ outs-Excepted b o is v co) (fault_behind [] (v ∷ []) b 0 e tt refl under)
+
+pub within_values : (self b : Part) (o : ℕ) (is : Flat) (v : Part) (co : Option Flat) (c : Column) (e : ColumnError) → self ≡ part.Excepted b o is v co → IsOpened b c → IsFaultUnder 1 v e → IsFaultOf self e
+within_values self b o is v co c e at base under =
+    within_told self (Part-F.Excepted b o is v co) e (ap out-Part at ∙ outs-Excepted b o is v co) (fault_behind (b ∷ []) [] v 1 e (base.clean, tt) refl under)
+
+-- ---- what opening costs
+
+-- the parts so far, one more, and the rest
+pub open_cost_at : (ps : List Part) (x : Part) (rest : List Part) → open_cost (ps ++ (x ∷ rest)) ≡ open_cost ps + (part_lane_cost x + open_cost rest)
+open_cost_at [] x rest = omega arith
+open_cost_at (p ∷ ps) x rest = omega (arith, open_cost_at ps x rest)
