@@ -1,12 +1,13 @@
 #!/usr/bin/env python3
-"""Measures reads of a column with exceptions: what a read counts beside its bound, and the time of one read.
+"""Measures reads of a column with exceptions, with and without chunk offsets apart.
 
     python3 bench/exceptions.py [PROGRAM]
 
 PROGRAM is the built `vx_column_bench`; if it isn't named, `rt run` builds it in its crate. The column has 1,000,000 rows and
-100,000 exceptions. The script runs the program with many reads and with none, and with the 1,000 reads whose counts it
-prints; the time of a read is the difference of the first two, fastest of 3, over the number of reads, with and without chunk
-offsets together. It ends with 1 where a read counted more than it may.
+100,000 exceptions. For each of the two columns the script prints the seconds of a run that makes it and reads 1,000 rows,
+what these reads counted on average and at most, how much one may count, and the time of a read: that of a run with
+1,000,000 reads less that of one with none, over the number of reads. Each time is the fastest of 3. The program looks at
+each row that it reads. The script ends with 1 where a row was wrong, or a read counted more than it may.
 """
 import pathlib
 import subprocess
@@ -17,31 +18,47 @@ CRATE = pathlib.Path(__file__).resolve().parent.parent / "crates" / "vx_column_b
 
 ROWS = 1_000_000
 EVERY = 10
+POINTS = 1_000
 READS = 1_000_000
 
 
-def run(program, reads):
-    """The lines that the program prints, and the seconds that it took."""
+def built():
+    """The program, built by a run of it."""
+    subprocess.run(["rt", "run"], cwd=CRATE, stdout=subprocess.DEVNULL, check=True)
+    return CRATE / "out" / "vx_column_bench"
+
+
+def run(program, reads, offsets):
+    """What the program prints of one column, by name, and the seconds that it took."""
+    words = [program, str(ROWS), str(EVERY), str(reads), offsets]
     start = time.perf_counter()
-    words = [program, str(ROWS), str(EVERY), str(reads)]
-    done = subprocess.run(words, capture_output=True, text=True, check=True)
-    return done.stdout.splitlines(), time.perf_counter() - start
+    done = subprocess.run(words, capture_output=True, text=True)
+    seconds = time.perf_counter() - start
+    if done.returncode != 0:
+        sys.exit(f"{offsets} chunk offsets: {done.stdout}{done.stderr}")
+    return dict(line.rsplit(" ", 1) for line in done.stdout.splitlines()), seconds
+
+
+def fastest(program, reads, offsets):
+    return min(run(program, reads, offsets)[1] for _ in range(3))
+
+
+def measured(program, offsets):
+    """Prints the line of one column, and answers whether its reads stayed within what they may count."""
+    fields, _ = run(program, POINTS, offsets)
+    seconds = fastest(program, POINTS, offsets)
+    read = (fastest(program, READS, offsets) - fastest(program, 0, offsets)) / READS
+    mean, most, allowed = (fields[f"counted {name}"] for name in ("on average", "at most", "allowed"))
+    print(f"| {offsets} | {seconds:.3f} s | {mean} | {most} | {allowed} | {read * 1e9:.0f} ns |")
+    return int(most) <= int(allowed)
 
 
 def main():
-    if len(sys.argv) > 1:
-        program = sys.argv[1]
-    else:
-        subprocess.run(["rt", "run"], cwd=CRATE, stdout=subprocess.DEVNULL, check=True)
-        program = CRATE / "out" / "vx_column_bench"
-    times = {reads: min(run(program, reads)[1] for _ in range(3)) for reads in (0, READS)}
-    lines, seconds = run(program, 1000)
-    print("\n".join(lines))
-    print(f"seconds for the columns and 1000 reads of each: {seconds:.3f}")
-    print(f"time of a read: {(times[READS] - times[0]) / (2 * READS) * 1e9:.0f} ns")
-    allowed = [int(line.rsplit(" ", 1)[1]) for line in lines if line.startswith("counted allowed")]
-    counted = [int(line.rsplit(" ", 1)[1]) for line in lines if line.startswith("counted at most")]
-    sys.exit(0 if len(counted) == 2 and all(c <= a for c, a in zip(counted, allowed)) else 1)
+    program = sys.argv[1] if len(sys.argv) > 1 else built()
+    print("| chunk offsets | column and 1,000 reads | counted on average | at most | allowed | time of a read |")
+    print("|---|---|---|---|---|---|")
+    within = [measured(program, offsets) for offsets in ("without", "with")]
+    sys.exit(0 if all(within) else 1)
 
 
 main()

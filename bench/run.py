@@ -4,6 +4,7 @@
 import argparse
 import array
 import filecmp
+import itertools
 import multiprocessing
 import os
 import pathlib
@@ -24,26 +25,30 @@ DEEP_LEVELS = 60  # of parts in parts; JSON may be nested 127 deep, and each par
 NAMED_ROWS = 1000  # in the reads of the shapes "wide" and "deep"
 PLAN_CHUNKS = 65
 PLAN_STEPS = 1000
-SHAPES = ("chunks", "wide", "deep", "flat", "plan", "exceptions", "woven", "texts", "whole page")
 LAST_ROWS = 100  # what the plan of a small page leaves
 CHUNK = 1024  # rows for which there is one chunk offset
-EVERY = 10  # one row of so many has an exception in the shape "exceptions"
+EVERY = 10  # one row of so many has an exception in the shapes "exceptions" and "lanes"
+LANES = 16  # of a chunk in the shape "lanes"
+
+
+def numbers(rng):
+    """Yields numbers without end, as texts."""
+    while True:
+        yield from map(str, array.array("i", rng.randbytes(4 * 4096)))
 
 
 def rows_of(rng, size):
     """Returns numbers whose text, with a comma after each, has at most `size` bytes, and nearly as many."""
     rows, left = [], size
-    while True:
-        piece = array.array("i", rng.randbytes(4 * 4096))
-        for text in map(str, piece):
-            left -= len(text) + 1
-            if left < 0:
-                return rows
-            rows.append(text)
+    for text in numbers(rng):
+        left -= len(text) + 1
+        if left < 0:
+            return rows
+        rows.append(text)
 
 
-def flat(rows):
-    return '{"flat":"i64","rows":[' + ",".join(rows) + "]}"
+def flat(rows, kind="i64"):
+    return f'{{"flat":"{kind}","rows":[' + ",".join(rows) + "]}"
 
 
 def whole_numbers(kind, numbers):
@@ -57,6 +62,23 @@ def excepted(rows):
     return (
         f'{{"excepted":{flat(base)},"offset":0,"indices":{whole_numbers("u32", range(0, len(rows), EVERY))},'
         f'"values":{flat(rows[::EVERY])},"chunk_offsets":{whole_numbers("u32", offsets)}}}'
+    )
+
+
+def lanes(rows):
+    """Returns a part of lanes in which each row of so many is an exception over another, and its rows."""
+    base = [row if at % EVERY else "0" for at, row in enumerate(rows)]
+    entries = [
+        [at for at in range(first + lane, min(first + CHUNK, len(rows)), LANES) if at % EVERY == 0]
+        for first in range(0, len(rows), CHUNK)
+        for lane in range(LANES)
+    ]
+    exceptions = [at for entry in entries for at in entry]
+    offsets = itertools.accumulate(map(len, entries), initial=0)
+    return (
+        f'{{"lanes":{flat(base)},"n_lanes":{LANES},"offset":0,"lane_offsets":{whole_numbers("u32", offsets)},'
+        f'"indices":{whole_numbers("u16", (at % CHUNK for at in exceptions))},'
+        f'"values":{flat([rows[at] for at in exceptions])}}}'
     )
 
 
@@ -93,7 +115,7 @@ def points_step(points, is_kept):
     return f'{{"points":[{",".join(map(str, points))}],"kept":{"true" if is_kept else "false"}}}'
 
 
-def middle(rows):
+def middle(rng, rows):
     """Returns a plan of one slice, and the few rows that it leaves."""
     start = max(0, len(rows) // 2 - LAST_ROWS // 2)
     end = min(len(rows), start + LAST_ROWS)
@@ -128,49 +150,53 @@ def long_plan(rng, rows):
     return plan, answers, rows[first : first + length]
 
 
+def every_row(rng, rows):
+    """Returns the plan without steps, and all rows."""
+    return [], [], rows
+
+
+def wide_length(rows, size):
+    """Returns the number of rows in a chunk of the shape "wide"."""
+    return -(-len(rows) // min(WIDE_CHUNKS, size // WIDE_BYTES))
+
+
+# For each shape: the bytes of a job of a size that its numbers may take, the part that is made of them, and the plan.
+SHAPES = {
+    "chunks": (lambda size: size * 299 // 300 - 200, lambda rows, size: chunked(rows, CHUNK_ROWS), middle),
+    "wide": (
+        lambda size: size - 25 * min(WIDE_CHUNKS, size // WIDE_BYTES) - 30_200,
+        lambda rows, size: chunked(rows, wide_length(rows, size)),
+        scattered,
+    ),
+    "deep": (lambda size: size - 40_200, lambda rows, size: nested(rows, DEEP_LEVELS), scattered),
+    "flat": (lambda size: size - 200, lambda rows, size: flat(rows), middle),
+    "plan": (
+        lambda size: size - 100_000,
+        lambda rows, size: chunked(rows, -(-len(rows) // PLAN_CHUNKS)),
+        long_plan,
+    ),
+    "exceptions": (lambda size: (size - 40_200) * 5 // 6, lambda rows, size: excepted(rows), scattered),
+    "lanes": (lambda size: (size - 40_200) * 9 // 10, lambda rows, size: lanes(rows), scattered),
+    "woven": (lambda size: (size - 40_200) * 7 // 13, lambda rows, size: woven(rows), scattered),
+    "texts": (lambda size: (size - 40_200) * 8 // 11, lambda rows, size: flat(rows, "utf8"), scattered),
+    "whole page": (lambda size: size - 200, lambda rows, size: flat(rows), every_row),
+}
+
+
 def make(shape, size, seed, job, page):
     """Writes a job of at most `size` bytes, and the page that is its right answer."""
     rng = random.Random(f"{shape} {size} {seed}")
-    room = size - (100_000 if shape == "plan" else 200)
-    if shape == "chunks":
-        room -= room // 300  # for the text around the chunks
-    elif shape == "wide":
-        room -= 25 * min(WIDE_CHUNKS, size // WIDE_BYTES) + 30_000
-    elif shape in ("deep", "exceptions"):
-        room -= 40_000
-    if shape == "exceptions":
-        room = room * 5 // 6  # for the indices of exceptions
-    elif shape == "woven":
-        room = room * 11 // 21  # for the selectors
-    elif shape == "texts":
-        room = room * 11 // 15  # for quotes and escapes
-    rows = rows_of(rng, room)
-    if shape == "chunks":
-        part, (plan, answers, left) = chunked(rows, CHUNK_ROWS), middle(rows)
-    elif shape == "flat":
-        part, (plan, answers, left) = flat(rows), middle(rows)
-    elif shape == "wide":
-        length = -(-len(rows) // min(WIDE_CHUNKS, size // WIDE_BYTES))
-        part, (plan, answers, left) = chunked(rows, length), scattered(rng, rows)
-    elif shape == "deep":
-        part, (plan, answers, left) = nested(rows, DEEP_LEVELS), scattered(rng, rows)
-    elif shape == "exceptions":
-        part, (plan, answers, left) = excepted(rows), scattered(rng, rows)
-    elif shape == "woven":
-        part, (plan, answers, left) = woven(rows), scattered(rng, rows)
-    elif shape == "texts":
-        rows = [f'"{row}\\n"' for row in rows]
-        part, (plan, answers, left) = '{"flat":"utf8","rows":[' + ",".join(rows) + "]}", scattered(rng, rows)
-    elif shape == "whole page":
-        part, plan, answers, left = flat(rows), [], [], rows
-    else:
-        part, (plan, answers, left) = chunked(rows, -(-len(rows) // PLAN_CHUNKS)), long_plan(rng, rows)
-    text = f'{{"parts":[{part}],"plan":[{",".join(plan)}]}}'
+    room_of, part_of, plan_of = SHAPES[shape]
+    rows, kind = rows_of(rng, room_of(size)), "i64"
+    if shape == "texts":
+        rows, kind = [f'"{row}\\n"' for row in rows], "utf8"
+    plan, answers, left = plan_of(rng, rows)
+    text = f'{{"parts":[{part_of(rows, size)}],"plan":[{",".join(plan)}]}}'
     if len(text) > size:
         sys.exit(f"bench: the job {shape} has {len(text)} bytes, above {size}")
     pathlib.Path(job).write_text(text, encoding="ascii")
     told = ",".join(f'{{"rows":[{",".join(answer)}]}}' for answer in answers)
-    right = f'{{"answers":[{told}],"rows":[{",".join(left)}],"type":"{"utf8" if shape == "texts" else "i64"}"}}\n'
+    right = f'{{"answers":[{told}],"rows":[{",".join(left)}],"type":"{kind}"}}\n'
     pathlib.Path(page).write_text(right, encoding="ascii")
 
 

@@ -14,7 +14,9 @@ use std::marker::Model;
 use std::ops::Range;
 use vx_rows::copy::{copy_row, copy_rows, repeat_row};
 use vx_rows::fits::{row_fits, rows_fit};
-use vx_rows::{ColumnError, DType, Path, Res, Row, Rule, Seq, Shared, Value, order};
+use vx_rows::{
+    ColumnError, DType, Nullability, PType, Path, Res, Row, Rule, Seq, Shared, Value, order,
+};
 
 /// Where the rows stand.
 #[derive(Drop)]
@@ -228,7 +230,31 @@ impl FlatColumn {
         order::row_cmp(self.row(i), elem)
     }
 
-    /// The number of row `i` of a column of unsigned integers, not counted.
+    /// Whether the rows are unsigned integers, of which none is nothing.
+    pub fn is_unsigned(&self) -> bool
+        ensures { result ≡ is_unsigned self.now.dtype }
+    {
+        matches!(
+            &self.dtype,
+            DType::Primitive(
+                PType::U8 | PType::U16 | PType::U32 | PType::U64,
+                Nullability::NonNullable
+            )
+        )
+    }
+
+    /// The number of row `i` of a column of unsigned integers. Raises the steps by one.
+    pub fn number_at<L: Ledger>(&self, i: usize, steps: &mut Steps<L>) -> usize
+        requires unsigned { IsTrue (is_unsigned self.now.dtype) }
+        requires inside { i < length self.now.rows }
+        ensures value { result ≡ slice_index (numbers_of self.now.rows) i }
+        ensures cost { steps.new ≡ steps.old + 1 }
+    {
+        steps.tick();
+        self.number(i)
+    }
+
+    /// The same, not counted.
     pub(crate) fn number(&self, i: usize) -> usize
         requires unsigned { IsTrue (is_unsigned self.now.dtype) }
         requires inside { i < length self.now.rows }

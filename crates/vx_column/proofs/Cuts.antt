@@ -489,7 +489,7 @@ cheap_layer (Column-F.Patched p) =
     let whole : Patched Column = record { inner = p.inner.0; lanes = p.lanes } in
     subst IsCheap (sym (rolls-Patched whole)) (omega (arith, cut_patched whole, point_patched whole, p.inner.1))
 cheap_layer (Column-F.Excepted x) =
-    let whole : Excepted Column = record { base = x.base.0; index = x.index; values = x.values.0 } in
+    let whole : Excepted Column = record { base = x.base.0; index = x.index; values = x.values.0; slots = map (λ e. e.0) x.slots } in
     subst IsCheap (sym (rolls-Excepted whole)) (omega (arith, cut_excepted whole, point_excepted whole, places_cheap x.index, x.base.1, x.values.1))
 cheap_layer (Column-F.Interleave i) =
     let whole : Interleave Column = record { dtype = i.dtype; selectors = i.selectors; values = map (λ e. e.0) i.values } in

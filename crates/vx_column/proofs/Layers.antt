@@ -11,7 +11,7 @@ use Rattle.vx_interleave.specs.Selections.{pairs_of}
 use Rattle.vx_search.proofs.Powers.{search_bound_positive}
 use Rattle.vx_base.specs.Column.{Flat}
 use Rattle.vx_rows.specs.declared.dtype.DType.{DType}
-use Rattle.vx_column.specs.Columns.{Rows, type_of, type_step, IsOf, lane_cost, lane_step, lane_reads, lane_entries, is_plain, plain_step, all_true, rows_of, rows_step, joined, excepted, woven, point_cost, point_step, cut_cost, cut_step, greatest, len_of, AreLanes, AreExceptions, AreWoven, IsSound, IsSoundLayer}
+use Rattle.vx_column.specs.Columns.{Rows, type_of, type_step, IsOf, lane_cost, lane_step, lane_reads, lane_entries, is_plain, plain_step, all_true, rows_of, rows_step, joined, excepted, woven, point_cost, point_step, cut_cost, cut_step, greatest, len_of, AreLanes, AreExceptions, AreWoven, IsSound, IsSoundLayer, slots_in}
 use Rattle.vx_column.specs.declared.column.Chunked.{Chunked}
 use Rattle.vx_column.specs.declared.patched.Patched.{Patched}
 use Rattle.vx_column.specs.declared.excepted.Excepted.{Excepted}
@@ -125,8 +125,14 @@ types_here c s = (sound_layer c s).1
 pub lanes_here : (p : Patched Column) → IsSound (column.Patched p) → AreLanes p
 lanes_here p s = subst IsSoundLayer (outs-Patched p) (every_here-Column IsSoundLayer (column.Patched p) s)
 
+exceptions_layer : (x : Excepted Column) → IsSound (column.Excepted x) → IsSoundLayer (Column-F.Excepted x)
+exceptions_layer x s = subst IsSoundLayer (outs-Excepted x) (every_here-Column IsSoundLayer (column.Excepted x) s)
+
 pub exceptions_here : (x : Excepted Column) → IsSound (column.Excepted x) → AreExceptions x
-exceptions_here x s = subst IsSoundLayer (outs-Excepted x) (every_here-Column IsSoundLayer (column.Excepted x) s)
+exceptions_here x s = (exceptions_layer x s).0
+
+pub slots_here : (x : Excepted Column) → IsSound (column.Excepted x) → x.slots ≡ map column.Flat (slots_in x.index)
+slots_here x s = (exceptions_layer x s).1
 
 pub woven_here : (i : Interleave Column) → IsSound (column.Interleave i) → AreWoven i
 woven_here i s = subst IsSoundLayer (outs-Interleave i) (every_here-Column IsSoundLayer (column.Interleave i) s)
@@ -140,7 +146,7 @@ abbrev children_in : {A : Type 0} → Column-F A → List A
 children_in (Column-F.Flat rows) = []
 children_in (Column-F.Chunked c) = c.chunks
 children_in (Column-F.Patched p) = p.inner ∷ []
-children_in (Column-F.Excepted x) = x.base ∷ x.values ∷ []
+children_in (Column-F.Excepted x) = x.base ∷ x.values ∷ x.slots
 children_in (Column-F.Interleave i) = i.values
 
 known_sound : (xs : List Known) → AllByRecursion IsSound (map (λ e. e.0) xs)
@@ -151,7 +157,7 @@ layer_sound : (x : Column-F Known) → AllByRecursion IsSound (children_in (map-
 layer_sound (Column-F.Flat rows) = tt
 layer_sound (Column-F.Chunked c) = known_sound c.chunks
 layer_sound (Column-F.Patched p) = known_sound (p.inner ∷ [])
-layer_sound (Column-F.Excepted x) = known_sound (x.base ∷ x.values ∷ [])
+layer_sound (Column-F.Excepted x) = known_sound (x.base ∷ x.values ∷ x.slots)
 layer_sound (Column-F.Interleave i) = known_sound i.values
 
 -- what is below a sound column is sound
@@ -170,12 +176,12 @@ inner_held p s =
 
 pub base_held : (x : Excepted Column) → IsSound (column.Excepted x) → IsSound x.base
 base_held x s =
-    let held : AllByRecursion IsSound (x.base ∷ x.values ∷ []) = subst (AllByRecursion IsSound) (ap children_in (outs-Excepted x)) (sound_within (column.Excepted x) s) in
+    let held : AllByRecursion IsSound (x.base ∷ x.values ∷ x.slots) = subst (AllByRecursion IsSound) (ap children_in (outs-Excepted x)) (sound_within (column.Excepted x) s) in
     held.0
 
 pub values_held : (x : Excepted Column) → IsSound (column.Excepted x) → IsSound x.values
 values_held x s =
-    let held : AllByRecursion IsSound (x.base ∷ x.values ∷ []) = subst (AllByRecursion IsSound) (ap children_in (outs-Excepted x)) (sound_within (column.Excepted x) s) in
+    let held : AllByRecursion IsSound (x.base ∷ x.values ∷ x.slots) = subst (AllByRecursion IsSound) (ap children_in (outs-Excepted x)) (sound_within (column.Excepted x) s) in
     held.1.0
 
 pub woven_held : (i : Interleave Column) → IsSound (column.Interleave i) → All IsSound i.values
@@ -190,6 +196,13 @@ unfolding with_proofs
 with_proofs_of [] s = refl
 with_proofs_of (x ∷ xs) s = ap (λ ys. x ∷ ys) (with_proofs_of xs s.1)
 
+pub sound_flat : (rows : Flat) → IsSound (column.Flat rows)
+sound_flat rows = subst IsSound (rolls-Flat rows) (every_made-Column IsSoundLayer (Column-F.Flat rows) (Column-F.Flat rows) refl tt)
+
+flats_sound : (flats : List Flat) → AllByRecursion IsSound (map column.Flat flats)
+flats_sound [] = tt
+flats_sound (rows ∷ flats) = (sound_flat rows, flats_sound flats)
+
 pub sound_made : (c : Chunked Column) → c.boundaries ≡ map len_of c.chunks → All (IsOf c.dtype) c.chunks → All IsSound c.chunks → IsSound (column.Chunked c)
 sound_made c h t s =
     let all = recursion_from_All IsSound c.chunks s in
@@ -201,9 +214,12 @@ pub patched_made : (p : Patched Column) → AreLanes p → IsSound p.inner → I
 patched_made p h s = subst IsSound (rolls-Patched p) (every_made-Column IsSoundLayer (Column-F.Patched p)
     (Column-F.Patched record { inner = (p.inner, s); lanes = p.lanes }) refl h)
 
-pub excepted_made : (x : Excepted Column) → AreExceptions x → IsSound x.base → IsSound x.values → IsSound (column.Excepted x)
-excepted_made x h b v = subst IsSound (rolls-Excepted x) (every_made-Column IsSoundLayer (Column-F.Excepted x)
-    (Column-F.Excepted record { base = (x.base, b); index = x.index; values = (x.values, v) }) refl h)
+pub excepted_made : (x : Excepted Column) → AreExceptions x → x.slots ≡ map column.Flat (slots_in x.index) → IsSound x.base → IsSound x.values → IsSound (column.Excepted x)
+excepted_made x h slots b v =
+    let all : AllByRecursion IsSound x.slots = subst (AllByRecursion IsSound) (sym slots) (flats_sound (slots_in x.index)) in
+    subst IsSound (rolls-Excepted x) (every_made-Column IsSoundLayer (Column-F.Excepted x)
+    (Column-F.Excepted record { base = (x.base, b); index = x.index; values = (x.values, v); slots = with_proofs x.slots all })
+    (ap (λ xs. Column-F.Excepted record { base = x.base; index = x.index; values = x.values; slots = xs }) (with_proofs_of x.slots all)) (h, slots))
 
 pub woven_made : (i : Interleave Column) → AreWoven i → All IsSound i.values → IsSound (column.Interleave i)
 woven_made i h s =
@@ -211,9 +227,6 @@ woven_made i h s =
     subst IsSound (rolls-Interleave i) (every_made-Column IsSoundLayer (Column-F.Interleave i)
     (Column-F.Interleave record { dtype = i.dtype; selectors = i.selectors; values = with_proofs i.values all })
     (ap (λ xs. Column-F.Interleave record { dtype = i.dtype; selectors = i.selectors; values = xs }) (with_proofs_of i.values all)) h)
-
-pub sound_flat : (rows : Flat) → IsSound (column.Flat rows)
-sound_flat rows = subst IsSound (rolls-Flat rows) (every_made-Column IsSoundLayer (Column-F.Flat rows) (Column-F.Flat rows) refl tt)
 
 pub total_joined : (cs : List Column) → total (map len_of cs) ≡ length (joined (map rows_of cs))
 total_joined [] = refl
@@ -247,7 +260,7 @@ some_layer (Column-F.Patched p) =
     let whole : Patched Column = record { inner = p.inner.0; lanes = p.lanes } in
     subst CostsSome (sym (rolls-Patched whole)) (omega (arith, point_patched whole))
 some_layer (Column-F.Excepted x) =
-    let whole : Excepted Column = record { base = x.base.0; index = x.index; values = x.values.0 } in
+    let whole : Excepted Column = record { base = x.base.0; index = x.index; values = x.values.0; slots = map (λ e. e.0) x.slots } in
     subst CostsSome (sym (rolls-Excepted whole)) (omega (arith, point_excepted whole, x.base.1))
 some_layer (Column-F.Interleave i) =
     let whole : Interleave Column = record { dtype = i.dtype; selectors = i.selectors; values = map (λ e. e.0) i.values } in

@@ -1,5 +1,5 @@
 -- What a column means, by recursion over it.
-use Rattle.std.specs.Prelude.{◌≡◌, ◌≤◌, ◌<◌, ◌^◌, ◌*◌, ◌/◌, ◌⊎◌, ℕ, ◌+◌, IsTrue, List, [], ◌∷◌, ◌++◌, map, max, length, get_or, Option, None, Bool, true, ◌&&◌, codes, cond, ◌==◌, nat_lt}
+use Rattle.std.specs.Prelude.{◌≡◌, ◌≤◌, ◌<◌, ◌^◌, ◌*◌, ◌/◌, ◌⊎◌, ℕ, ◌+◌, IsTrue, List, [], ◌∷◌, ◌++◌, map, max, length, get_or, Option, Some, None, Bool, true, ◌&&◌, codes, cond, ◌==◌, nat_lt}
 use Rattle.std.specs.List.{slice_range, All}
 use Rattle.std.specs.Option.{unwrap_or}
 use Rattle.vx_rows.specs.declared.dtype.DType.{DType}
@@ -24,6 +24,7 @@ use Rattle.vx_column.specs.Kinds.{AreExceptionKinds, AreLaneKinds, AreWovenKinds
 use Rattle.vx_column.specs.declared.column.Chunked.{Chunked}
 use Rattle.vx_column.specs.declared.column.Column.{Column}
 use Rattle.vx_column.specs.declared.column.Column.TheOpen.{Column-F}
+use Rattle.vx_column.specs.declared.column.Column.TheVariants.{Flat as flat_column}
 use Rattle.vx_column.specs.declared.column.Column.TheFolds.{fold-Column, every-Column}
 
 abbrev pub Rows : Type 0
@@ -166,6 +167,14 @@ values_of array = array.values
 abbrev pub index_of : Excepted Column → Index
 index_of array = array.index
 
+-- the flat slots of places: the indices, and the chunk offsets where there are any
+abbrev pub slots_in : Index → List Flat
+slots_in index = index.indices ∷ listed index.chunk_offsets
+  where
+    listed : Option Flat → List Flat
+    listed None = []
+    listed (Some chunk_offsets) = chunk_offsets ∷ []
+
 -- the inner column of lanes, and their layout
 abbrev pub inner_of : Patched Column → Column
 inner_of array = array.inner
@@ -203,12 +212,13 @@ AreExceptions e = AreExceptionKinds e.index (type_of e.base) (len_of e.base) (ty
 abbrev pub AreWoven : Interleave Column → Type 0
 AreWoven i = AreWovenKinds i.selectors i.dtype (map type_of i.values) (map len_of i.values)
 
--- the boundaries are the running sums of the chunks' lengths, and each chunk is of the declared type
+-- the boundaries are the running sums of the chunks' lengths, and each chunk is of the declared type; the slots of
+-- exceptions are their places' own rows
 abbrev pub IsSoundLayer : Column-F Column → Type 0
 IsSoundLayer (Column-F.Flat c) = Unit {0}
 IsSoundLayer (Column-F.Chunked chunked) = (chunked.boundaries ≡ map len_of chunked.chunks) × All (IsOf chunked.dtype) chunked.chunks
 IsSoundLayer (Column-F.Patched patched) = AreLanes patched
-IsSoundLayer (Column-F.Excepted e) = AreExceptions e
+IsSoundLayer (Column-F.Excepted e) = AreExceptions e × (e.slots ≡ map flat_column (slots_in e.index))
 IsSoundLayer (Column-F.Interleave interleave) = AreWoven interleave
 
 -- so is each layer

@@ -1,5 +1,5 @@
 //! The parts of a chunked column, for those who made it of parts.
-ghost use Rattle.std.specs.Prelude.{◌≡◌, ◌<◌, Some, All, length, map, slice_get, IfOk, OnOk, IfErr, IsOkUnless, ◌^◌};
+ghost use Rattle.std.specs.Prelude.{◌≡◌, ◌<◌, Some, All, length, map, slice_get, IfOk, OnOk, IfErr, IfSome, IsOkUnless, ◌^◌};
 ghost use Rattle.std.specs.Slice.Iter.{iter_rest};
 ghost use Rattle.vx_chunks.specs.Bounds.{running, total};
 ghost use Rattle.vx_chunks.specs.Offsets.{offsets_of};
@@ -102,9 +102,11 @@ impl Chunked<Column> {
 
     /// A column of the same type and rows that needs no chunks: an empty flat one for no chunk, the chunk for one
     /// chunk, and none for more.
+    #[tactic(auto, using(crate::proofs::Layers::sound_flat))]
     pub fn reduce(&self, alloc: Global) -> Res<Option<Column>>
         requires { IsSound (chunked_column self.now) }
         ensures ok { IfOk result (IsReduced self.now) }
+        ensures sound { IfOk result (λ column. IfSome column IsSound) }
         ensures err { IsOkUnless result ColumnError.OutOfMemory }
     {
         match self.children() {

@@ -1,6 +1,7 @@
 //! A column with exceptions over its rows.
 ghost use Rattle.std.specs.Prelude.{◌≡◌, ◌+◌, ◌*◌, ◌-◌, ◌^◌, ◌<◌, ◌≤◌, ◌↔◌, length, min, get_or, Some, None, is_some};
-ghost use Rattle.std.specs.Prelude.{IfOk, OnOk, IfErr, IsOk, IsOkUnless, IsTrue, IsFalse};
+ghost use Rattle.std.specs.Prelude.{IfOk, OnOk, IfErr, IsOk, IsOkUnless, IsTrue, IsFalse, IfSome, map};
+ghost use Rattle.std.specs.Option.{option_copied, option_map};
 ghost use Rattle.vx_rows.specs.Sizes.{type_takes_memory};
 ghost use Rattle.vx_rows.specs.Types.{AlikeTypes};
 ghost use Rattle.vx_base.specs.Ranges.{ends_cut};
@@ -11,14 +12,14 @@ ghost use Rattle.vx_patches.specs.Slices.{cut_cost as places_cut_cost};
 ghost use Rattle.vx_column.specs.Kinds.{is_scalar, may_be_nothing, AreExceptionKinds};
 ghost use Rattle.vx_column.specs.Excepts.{StandsAt, IsKeptOf};
 ghost use Rattle.vx_column.specs.Faults.{IsExceptionsFault, MadeCause};
-ghost use Rattle.vx_column.specs.Columns.{IsSound, IsSliceOf, IsWhole, type_of, rows_of, len_of, point_cost, cut_cost, base_of, values_of, index_of};
-ghost use Rattle.vx_column.specs.declared.column.Column.TheVariants.{Excepted as excepted_column};
+ghost use Rattle.vx_column.specs.Columns.{IsSound, IsSliceOf, IsWhole, type_of, rows_of, len_of, point_cost, cut_cost, base_of, values_of, index_of, slots_in};
+ghost use Rattle.vx_column.specs.declared.column.Column.TheVariants.{Excepted as excepted_column, Flat as flat_column};
 
 use crate::column::Column;
-use crate::kinds::{is_scalar, malformed, places_cut_cost, search_cost, unsupported, value_fault};
+use crate::kinds::{is_scalar, malformed, unsupported, value_fault};
 use std::alloc::Global;
 use std::ops::Range;
-use vx_base::{ColumnError, DType, FlatColumn, Ledger, Res, Row, Shared, Steps};
+use vx_base::{ColumnError, DType, FlatColumn, Ledger, Res, Row, Seq, Shared, Steps};
 use vx_patches::PatchIndex;
 use vx_search::SearchResult;
 
@@ -28,6 +29,8 @@ pub struct Excepted<C> {
     base: Shared<C>,
     index: PatchIndex,
     values: Shared<C>,
+    // The indices, and the chunk offsets where there are any, as columns over the rows that the index holds.
+    slots: Shared<Seq<C>>,
 }
 
 /// A column with exceptions, whose base and values are columns.
@@ -78,10 +81,12 @@ impl Excepted<Column> {
     {
         let base = Shared::new(alloc, base)?;
         let values = Shared::new(alloc, values)?;
+        let slots = slots_of(alloc, &index)?;
         Ok(Excepted {
             base,
             index,
             values,
+            slots,
         })
     }
 
@@ -93,10 +98,12 @@ impl Excepted<Column> {
         let base = self.base.copy()?;
         let index = self.index.share()?;
         let values = self.values.copy()?;
+        let slots = self.slots.copy()?;
         Ok(Excepted {
             base,
             index,
             values,
+            slots,
         })
     }
 
@@ -139,6 +146,48 @@ impl Excepted<Column> {
     {
         &self.index
     }
+
+    /// The columns over the rows of the places.
+    fn slots(&self) -> &[Column]
+        requires { IsSound (excepted_column self.now) }
+        ensures { result.now ≡ map flat_column (slots_in (index_of self.now)) }
+    {
+        self.slots.get().as_slice()
+    }
+
+    /// The indices as a column, which shares their rows.
+    #[tactic(auto, using(crate::proofs::Layers::sound_flat))]
+    pub fn indices(&self) -> &Column
+        requires { IsSound (excepted_column self.now) }
+        ensures value { result.now ≡ flat_column (index_of self.now).indices }
+        ensures sound { IsSound result.now }
+    {
+        &self.slots()[0]
+    }
+
+    /// The chunk offsets as a column, which shares their rows, where there are any.
+    pub fn chunk_offsets(&self) -> Option<&Column>
+        requires { IsSound (excepted_column self.now) }
+        ensures value { option_copied result ≡ option_map flat_column (index_of self.now).chunk_offsets }
+        ensures sound { IfSome result (λ slot. IsSound slot.now) }
+    {
+        self.slots().get(1)
+    }
+}
+
+/// Columns over the rows of the index: the indices, and the chunk offsets where there are any.
+fn slots_of(alloc: Global, index: &PatchIndex) -> Res<Shared<Seq<Column>>>
+    ensures ok { IfOk result (λ slots. slots ≡ map flat_column (slots_in index.now)) }
+    ensures err { IsOkUnless result ColumnError.OutOfMemory }
+{
+    let mut slots = Vec::new(alloc);
+    let indices = index.indices().share()?;
+    slots.push(Column::Flat(indices))?;
+    if let Some(chunk_offsets) = index.chunk_offsets() {
+        let chunk_offsets = chunk_offsets.share()?;
+        slots.push(Column::Flat(chunk_offsets))?;
+    }
+    Ok(Shared::new(alloc, Seq::from_vec(slots))?)
 }
 
 impl Excepted<Column> {
@@ -256,7 +305,7 @@ impl Excepted<Column> {
             .base()
             .point_cost()
             .saturating_add(self.values().point_cost());
-        search_cost(self.index()).saturating_add(children)
+        self.index().search_cost().saturating_add(children)
     }
 
     #[cycle(cut_cost)]
@@ -268,6 +317,6 @@ impl Excepted<Column> {
             .base()
             .cut_cost()
             .saturating_add(self.values().cut_cost());
-        places_cut_cost(self.index()).saturating_add(children)
+        self.index().cut_cost().saturating_add(children)
     }
 }

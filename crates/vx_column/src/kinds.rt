@@ -4,8 +4,6 @@ ghost use Rattle.vx_rows.specs.declared.error.ColumnError.TheVariants.{Malformed
 ghost use Rattle.vx_rows.specs.Types.{AlikeTypes};
 ghost use Rattle.vx_base.specs.Numbers as numbers;
 ghost use Rattle.vx_base.specs.Rules.{first_broken};
-ghost use Rattle.vx_patches.specs.Search as places;
-ghost use Rattle.vx_patches.specs.Slices as slices;
 ghost use Rattle.vx_column.specs.Kinds as kinds;
 ghost use Rattle.vx_column.specs.Faults.{value_rules, all_scalar};
 ghost use Rattle.vx_column.specs.Columns.{IsSound, type_of, len_of};
@@ -14,7 +12,6 @@ use crate::column::Column;
 use std::alloc::Global;
 use vx_base::{ColumnError, DType, Nullability, Path, Res, Rule};
 use vx_patches::PatchIndex;
-use vx_search::search_bound;
 
 /// The refusal of parts that break a rule, and are no part of others.
 pub(crate) fn malformed(alloc: Global, rule: Rule) -> ColumnError
@@ -144,24 +141,4 @@ pub(crate) fn value_fault(
         return Some(Rule::ValueNullable);
     }
     None
-}
-
-/// The most that a search of places raises the steps by.
-pub(crate) fn search_cost(index: &PatchIndex) -> u64
-    ensures { result ≡ places.search_cost index.now }
-{
-    match index.chunk_offsets() {
-        Some(_) => 25,
-        None => search_bound(index.num_patches()),
-    }
-}
-
-/// The most that a cut end of places raises the steps by.
-pub(crate) fn places_cut_cost(index: &PatchIndex) -> u64
-    ensures { result ≡ slices.cut_cost index.now }
-{
-    match index.chunk_offsets() {
-        Some(_) => 27,
-        None => search_bound(index.num_patches()),
-    }
 }

@@ -1,11 +1,11 @@
 //! Exceptions by row.
 ghost use Rattle.vx_column.specs.Columns.{IsSound};
 
-use crate::parts::{costs, flat, nullable, read, shared, slice, sliced};
+use crate::parts::{all, costs, flat, is_value, nullable, plain, read, shared, slice, sliced};
 use std::alloc::Global;
 use std::ops::Range;
 use std::test::Fail;
-use vx_base::{FlatColumn, PType, Res};
+use vx_base::{FlatColumn, PType, Res, Seq};
 use vx_column::Column;
 use vx_plan::{Boxed, Part};
 
@@ -45,6 +45,8 @@ fn an_exception_replaces_a_nothing(rt: HostRuntime) -> Result<(), Fail> {
     let part = one_nullable(rt.alloc(), &[None, Some(5), Some(6)], 0, Some(9))?;
     let numbers = sliced(&rt, part, 0..3)?;
     assert_eq!(rt; numbers.as_slice(), [Some(9), Some(5), Some(6)].as_slice());
+    let part = one_nullable(rt.alloc(), &[None, Some(5), Some(6)], 0, Some(9))?;
+    assert!(rt; is_value(&rt, part, 0)?);
     Ok(())
 }
 
@@ -53,6 +55,8 @@ fn a_nothing_replaces_a_value(rt: HostRuntime) -> Result<(), Fail> {
     let part = one_nullable(rt.alloc(), &[Some(4), Some(5)], 1, None)?;
     let (rows, _count) = read(&rt, part, &[0, 1])?;
     assert_eq!(rt; rows.as_slice(), [Some(4), None].as_slice());
+    let part = one_nullable(rt.alloc(), &[Some(4), Some(5)], 1, None)?;
+    assert!(rt; !is_value(&rt, part, 1)?);
     Ok(())
 }
 
@@ -83,16 +87,31 @@ fn slices_rows_under_exceptions(rt: HostRuntime) -> Result<(), Fail> {
     Ok(())
 }
 
-/// Whether a slice of the part is flat.
-fn is_flat(rt: &HostRuntime, part: Part, range: Range<usize>) -> Res<bool> {
+/// Whether a slice of the part is of that encoding.
+fn is_of(rt: &HostRuntime, part: Part, range: Range<usize>, id: &str) -> Res<bool> {
     let column = slice(rt, part, range)?;
-    Ok(column.id() == "vx.flat")
+    Ok(column.id() == id)
+}
+
+/// Two chunks of three rows, of which the last row is 9.
+fn last_of_chunks(alloc: Global) -> Res<Part> {
+    let mut chunks = Seq::new(alloc);
+    chunks.push(Part::Flat(flat(alloc, PType::I32, &[1, 2, 3])?))?;
+    chunks.push(Part::Flat(flat(alloc, PType::I32, &[4, 5, 6])?))?;
+    let base = Part::Chunked {
+        dtype: plain(PType::I32),
+        chunks,
+    };
+    let values = Part::Flat(flat(alloc, PType::I32, &[9])?);
+    excepted(alloc, base, &[5], values, None)
 }
 
 #[test]
 fn a_slice_without_exceptions_is_the_bases(rt: HostRuntime) -> Result<(), Fail> {
-    assert!(rt; is_flat(&rt, two_of_four(rt.alloc(), None)?, 2..3)?);
-    assert!(rt; !is_flat(&rt, two_of_four(rt.alloc(), None)?, 2..4)?);
+    assert!(rt; is_of(&rt, two_of_four(rt.alloc(), None)?, 2..3, "vx.flat")?);
+    assert!(rt; is_of(&rt, two_of_four(rt.alloc(), None)?, 2..4, "vx.excepted")?);
+    assert!(rt; is_of(&rt, last_of_chunks(rt.alloc())?, 1..5, "vortex.chunked")?);
+    assert!(rt; is_of(&rt, last_of_chunks(rt.alloc())?, 1..6, "vx.excepted")?);
     Ok(())
 }
 
@@ -120,6 +139,44 @@ fn shape(rt: &HostRuntime, part: Part, range: Range<usize>) -> Res<Option<(usize
 fn tells_its_parts(rt: HostRuntime) -> Result<(), Fail> {
     let shape = shape(&rt, two_of_four(rt.alloc(), None)?, 1..4)?;
     assert_eq!(rt; shape, Some((3, 2, 2)));
+    Ok(())
+}
+
+/// The numbers in the slots of the indices and of the chunk offsets; none where there is no such slot.
+fn slots_of(rt: &HostRuntime, column: &Column) -> Res<(Vec<Option<i128>>, Vec<Option<i128>>)>
+    requires { IsSound column.now }
+{
+    let Column::Excepted(array) = column else {
+        return Ok((Vec::new(rt.alloc()), Vec::new(rt.alloc())));
+    };
+    let indices = all(rt, array.indices())?;
+    let chunk_offsets = match array.chunk_offsets() {
+        Some(slot) => all(rt, slot)?,
+        None => Vec::new(rt.alloc()),
+    };
+    Ok((indices, chunk_offsets))
+}
+
+/// The same of another handle on a slice of the part.
+fn slots(
+    rt: &HostRuntime,
+    part: Part,
+    range: Range<usize>,
+) -> Res<(Vec<Option<i128>>, Vec<Option<i128>>)> {
+    let other = shared(rt, part, range)?;
+    slots_of(rt, &other)
+}
+
+#[test]
+fn lends_its_slots(rt: HostRuntime) -> Result<(), Fail> {
+    let (indices, none) = slots(&rt, two_of_four(rt.alloc(), None)?, 2..4)?;
+    assert_eq!(rt; indices.as_slice(), [Some(3)].as_slice());
+    assert!(rt; none.is_empty());
+    let offsets = flat(rt.alloc(), PType::U64, &[0])?;
+    let part = two_of_four(rt.alloc(), Some(offsets))?;
+    let (indices, chunk_offsets) = slots(&rt, part, 0..4)?;
+    assert_eq!(rt; indices.as_slice(), [Some(1), Some(3)].as_slice());
+    assert_eq!(rt; chunk_offsets.as_slice(), [Some(0)].as_slice());
     Ok(())
 }
 

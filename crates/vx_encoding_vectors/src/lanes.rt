@@ -251,8 +251,13 @@ fn reads_rows_under_lanes(rt: HostRuntime) -> Result<(), Fail> {
     let (nothing, count) = read(&rt, two_lanes(rt.alloc())?, &[0])?;
     assert_eq!(rt; nothing.as_slice(), [None].as_slice());
     assert_eq!(rt; count, 1, "nothing is looked for behind a nothing");
-    let (row, _count) = read(&rt, two_lanes(rt.alloc())?, &[1])?;
+    let (row, count) = read(&rt, two_lanes(rt.alloc())?, &[1])?;
     assert_eq!(rt; row.as_slice(), [Some(9)].as_slice());
+    assert_eq!(rt;
+        count,
+        5,
+        "the inner row, two lane offsets, an index and a value"
+    );
     assert!(rt; !is_value(&rt, two_lanes(rt.alloc())?, 0)?);
     Ok(())
 }

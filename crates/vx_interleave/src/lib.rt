@@ -2,7 +2,6 @@
 #![tactic(auto)]
 
 pub mod data;
-mod numbers;
 mod rules;
 pub mod selectors;
 #[cfg(test)]

@@ -5,26 +5,13 @@ ghost use Rattle.vx_base.specs.Checks as checks;
 ghost use Rattle.vx_interleave.specs.Rules as rules;
 
 use vx_base::checks::{all_within, selectors_within};
-use vx_base::{DType, FlatColumn, Nullability, PType, Rule};
+use vx_base::{FlatColumn, Rule};
 
-/// Whether the type is an unsigned one without nothings.
-fn is_unsigned(dtype: &DType) -> bool
-    ensures { result ≡ spec.is_unsigned dtype.now }
-{
-    matches!(
-        dtype,
-        DType::Primitive(
-            PType::U8 | PType::U16 | PType::U32 | PType::U64,
-            Nullability::NonNullable
-        )
-    )
-}
-
-/// Whether both selectors are of such types.
+/// Whether both selectors are unsigned numbers without nothings.
 fn are_numbers(array_indices: &FlatColumn, row_indices: &FlatColumn) -> bool
     ensures { result ≡ (spec.is_unsigned array_indices.now.dtype && spec.is_unsigned row_indices.now.dtype) }
 {
-    is_unsigned(array_indices.dtype()) && is_unsigned(row_indices.dtype())
+    array_indices.is_unsigned() && row_indices.is_unsigned()
 }
 
 /// Whether each array number is below the number of values.

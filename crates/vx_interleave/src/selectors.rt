@@ -5,7 +5,6 @@ ghost use Rattle.vx_base.specs.Rules.{Refuses};
 ghost use Rattle.vx_interleave.specs.Selections.{IsSelection, AreWithin, selection, len_of, array_of, row_of, window_of};
 ghost use Rattle.vx_interleave.specs.Rules.{selector_fault};
 
-use crate::numbers::number_at;
 use crate::rules;
 use std::alloc::Global;
 use std::marker::Model;
@@ -119,8 +118,8 @@ impl Selectors {
         ensures cost { steps.new ≡ steps.old + 2 }
         ensures sound { IsSelection self.now }
     {
-        let array = number_at(self.array_indices(), i, steps);
-        let row = number_at(self.row_indices(), i, steps);
+        let array = self.array_indices().number_at(i, steps);
+        let row = self.row_indices().number_at(i, steps);
         (array, row)
     }
 

@@ -18,7 +18,9 @@ const MAX_DEPTH: usize = 128;
 /// The parts of a column, and the steps to take with it.
 #[derive(Drop)]
 pub struct Job {
+    /// The parts: the steps act on the first.
     pub parts: Vec<Part>,
+    /// The steps, in order.
     pub plan: Vec<Step>,
 }
 

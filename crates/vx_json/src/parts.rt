@@ -14,7 +14,7 @@ use vx_plan::{Boxed, Part};
 use vx_rows::fits::row_fits;
 use vx_rows::{ColumnError, DType, Row, Seq};
 
-/// The forms of parts.
+/// The forms of parts, each known by a key that no other has.
 #[derive(Clone, Copy, Debug, PartialEq, Eq, Drop)]
 pub enum Tag {
     Flat,

@@ -11,7 +11,7 @@ use serde_json::Value;
 use std::alloc::Global;
 use vx_plan::Step;
 
-/// The forms of steps.
+/// The forms of steps, each known by a key that no other has.
 #[derive(Clone, Copy, Debug, PartialEq, Eq, Drop)]
 pub enum StepTag {
     Slice,

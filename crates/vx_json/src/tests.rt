@@ -60,6 +60,12 @@ fn reads_parts(rt: HostRuntime) -> Result<(), Fail> {
     for (part, want) in table {
         assert_eq!(rt; is_job(alloc, &job_over(alloc, part)?)?, want, "{part}");
     }
+    Ok(())
+}
+
+#[test]
+fn reads_parts_at_most_so_deep(rt: HostRuntime) -> Result<(), Fail> {
+    let alloc = rt.alloc();
     let shallow = chunked(alloc, "{\"constant\":\"u8\",\"row\":1,\"len\":0}", 62)?;
     assert_eq!(rt; is_job(alloc, &job_over(alloc, &shallow)?)?, true);
     let deep = chunked(alloc, "{\"flat\":\"u8\",\"rows\":[]}", 62)?;

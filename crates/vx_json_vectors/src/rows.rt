@@ -58,15 +58,19 @@ fn reads_and_prints_rows(rt: HostRuntime) -> Result<(), Fail> {
             "\"\\\"\\\\\\u0001\\u000a\\u00e9\\/\"",
             "\"\\\"\\\\\\u0001\\n\u{e9}/\"",
         ),
+        (
+            "\"utf8\"",
+            "\"\\u0008\\u000c\\u000d\\u0009\\u001f\\u007f\\u2028\"",
+            "\"\\b\\f\\r\\t\\u001f\u{7f}\u{2028}\"",
+        ),
         ("\"utf8?\"", "null", "null"),
     ];
     for (dtype, row, want) in table {
         let line = format!(in alloc; "{{\"answers\":[],\"rows\":[{want}],\"type\":{dtype}}}\n")?;
-        assert_eq!(rt;
-            printed(alloc, dtype, row)?.as_slice(),
-            line.as_bytes(),
-            "{row}"
-        );
+        let page = printed(alloc, dtype, row)?;
+        assert_eq!(rt; page.as_slice(), line.as_bytes(), "{row}");
+        let again = printed(alloc, dtype, want)?;
+        assert_eq!(rt; again.as_slice(), line.as_bytes(), "{want} is read back");
     }
     Ok(())
 }

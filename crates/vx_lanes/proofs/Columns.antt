@@ -12,12 +12,12 @@ use Rattle.vx_lanes.specs.declared.layout.Layout.{Layout}
 use Rattle.vx_lanes.specs.Layouts.{IsLayout, first_below, exception_of, exceptions, value_of, value_under, row_under, rows_under, overlaid, layout_part, layout_slice, layout_chunks, chunk_row}
 use Rattle.vx_lanes.proofs.Slices.{size_within, slice_entries, slice_means, chunks_some, chunks_none}
 
-under_length : (l : Layout) (n from : ℕ) (rows : List (Option Value)) → length (rows_under l n from rows) ≡ length rows
+pub under_length : (l : Layout) (n from : ℕ) (rows : List (Option Value)) → length (rows_under l n from rows) ≡ length rows
 unfolding rows_under
 under_length l n from [] = refl
 under_length l n from (r ∷ rs) = ap suc (under_length l n (from + 1) rs)
 
-under_at : (l : Layout) (n from : ℕ) (rows : List (Option Value)) (i : ℕ) → get_or (rows_under l n from rows) i None ≡ row_under l n (from + i) (get_or rows i None)
+pub under_at : (l : Layout) (n from : ℕ) (rows : List (Option Value)) (i : ℕ) → get_or (rows_under l n from rows) i None ≡ row_under l n (from + i) (get_or rows i None)
 unfolding rows_under row_under
 under_at l n from [] i = refl
 under_at l n from (r ∷ rs) zero =

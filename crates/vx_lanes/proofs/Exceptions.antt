@@ -1,5 +1,5 @@
 -- The exception for a row: there is at most one, and its row's lane holds it.
-use Rattle.std.proofs.Common.{◌≡◌, ℕ, zero, suc, ◌+◌, ◌-◌, ◌*◌, ◌%◌, ◌<◌, ◌≤◌, inl, inr, refl, sym, ◌∙◌, ap, subst, arith, Some, None, Bool, true, false, cond}
+use Rattle.std.proofs.Common.{◌≡◌, ℕ, zero, suc, ◌+◌, ◌-◌, ◌*◌, ◌/◌, ◌%◌, ◌<◌, ◌≤◌, inl, inr, refl, sym, ◌∙◌, ap, subst, arith, Some, None, Bool, true, false, cond}
 use Rattle.std.specs.Option.{option_or}
 use Rattle.std.proofs.lemmas.Nat.{mod-mul-add}
 use Rattle.std.proofs.lemmas.Bool.{cases_lt}
@@ -51,9 +51,15 @@ pub record Belongs (l : Layout) (g k : ℕ) : Type 0 where
   pub from : lane_start l g ≤ k
   pub below : k < lane_start l (g + 1)
 
--- the entry that holds a row's exception
+-- the entry that holds the exception at a place counted over all chunks, and a row's exception
+abbrev pub entry_at : Layout → ℕ → ℕ
+entry_at l place = place / 1024 * l.n_lanes + place % 1024 % l.n_lanes
+
 abbrev pub entry_of : Layout → ℕ → ℕ
-entry_of l row = chunk_of l row * l.n_lanes + place_of l row % l.n_lanes
+entry_of l row = entry_at l (l.offset + row)
+
+pub entry_at_within : (l : Layout) (place : ℕ) → IsLayout l → place < l.offset + l.len → entry_at l place < entries l
+entry_at_within l place s h = entry_within l (place / 1024) (place % 1024 % l.n_lanes) s (omega arith) (omega (arith, lanes_some l s))
 
 pub chunk_within : (l : Layout) (row : ℕ) → row < l.len → chunk_of l row < chunks_of (l.offset + l.len)
 chunk_within l row h = omega arith
@@ -120,6 +126,16 @@ exception_some l row k s h e =
     first_some (excepts l row) (exceptions l) k (entry_inside l (entry_of l row) k s (entry_of_within l row s h) b.below) (excepts_true l row k e)
     (λ m w. excepts_false l row m (λ f. absurd (let same : m ≡ k = one_exception l row m k s h f e in omega arith)))
 
-pub exception_none : (l : Layout) (row : ℕ) → IsLayout l → row < l.len → ((k : ℕ) → Belongs l (entry_of l row) k → index_of l k ≡ place_of l row → ⊥) → exception_of l row ≡ None
-exception_none l row s h never =
-    first_none (excepts l row) (exceptions l) (λ m w. excepts_false l row m (λ f. never m (holds l row m s h f) f.place))
+pub exception_none : (l : Layout) (row : ℕ) → ((k : ℕ) → Excepts l row k → ⊥) → exception_of l row ≡ None
+exception_none l row never = first_none (excepts l row) (exceptions l) (λ m w. excepts_false l row m (never m))
+
+-- what stands in the entry of a place, with its index, is the exception of the place's row, and nothing else is
+pub found_at : (l : Layout) (place k row : ℕ) → IsLayout l → place < l.offset + l.len → Belongs l (entry_at l place) k → index_of l k ≡ place % 1024 → l.offset + row ≡ place → Excepts l row k
+found_at l place k row s h b p e =
+    let at : entry_at l place ≡ entry_of l row = ap (entry_at l) (sym e) in
+    holds_back l row k s (omega arith) (subst (λ (g : ℕ). Belongs l g k) at b) (p ∙ ap (λ n. n % 1024) (sym e))
+
+pub missed_at : (l : Layout) (place : ℕ) → IsLayout l → place < l.offset + l.len → ((k : ℕ) → Belongs l (entry_at l place) k → index_of l k ≡ place % 1024 → ⊥) → (row k : ℕ) → l.offset + row ≡ place → Excepts l row k → ⊥
+missed_at l place s h never row k e f =
+    let at : entry_of l row ≡ entry_at l place = ap (entry_at l) e in
+    never k (subst (λ (g : ℕ). Belongs l g k) at (holds l row k s (omega arith) f)) (f.place ∙ ap (λ n. n % 1024) e)

@@ -4,5 +4,6 @@ pub mod Exceptions
 pub mod Firsts
 pub mod Typed
 pub mod Overlays
+pub mod Pairs
 pub mod Slices
 pub mod Sound

@@ -7,8 +7,9 @@ use Rattle.std.proofs.lemmas.List.{get_or-set_same, get_or-set_other}
 use Rattle.std.proofs.lemmas.Bool.Decides.{nat_tests}
 use Rattle.vx_rows.specs.declared.value.Value.{Value}
 use Rattle.vx_lanes.specs.declared.layout.Layout.{Layout}
-use Rattle.vx_lanes.specs.Layouts.{IsLayout, Excepts, excepts, first_below, exception_below, exceptions, value_of, value_under, chunks_of, chunk_of, place_of, entries, lane_start, index_of, row_under, rows_under, overlaid, laid}
+use Rattle.vx_lanes.specs.Layouts.{IsLayout, Excepts, excepts, first_below, exception_below, exceptions, value_of, value_under, chunks_of, chunk_of, place_of, entries, lane_start, index_of, row_under, rows_under, overlaid, overlaid_below, one_if_some, covered, laid}
 use Rattle.vx_lanes.proofs.Entries.{starts_rise, index_low, lanes_some, entry_within}
+use Rattle.vx_lanes.proofs.Columns.{under_length, under_at}
 use Rattle.vx_lanes.proofs.Exceptions.{first_none, excepts_true, excepts_false, Belongs, entry_of, entry_of_within, holds, one_exception, chunk_within}
 
 -- one exception more
@@ -69,7 +70,7 @@ stands_back l g k row s h u b e =
     }
 
 -- rows under the first n exceptions, row by row
-pub record Under (l : Layout) (n : ℕ) (old new : List (Option Value)) : Type 0 where
+record Under (l : Layout) (n : ℕ) (old new : List (Option Value)) : Type 0 where
   pub len : length new ≡ length old
   pub each : (row : ℕ) → row < length old → get_or new row None ≡ row_under l n row (get_or old row None)
 
@@ -110,7 +111,7 @@ at_place l g k row (Some x) s h u b =
           ∙ sym (ap (λ o. value_under l o x) (below_same l k row (λ f. apart (stands l g k row s h u b f))))
     ]
 
-pub under_more : (l : Layout) (g k : ℕ) (old mid new : List (Option Value)) → IsLayout l → length old ≡ l.len → g < entries l → Belongs l g k → Under l k old mid → length new ≡ length mid →
+under_more : (l : Layout) (g k : ℕ) (old mid new : List (Option Value)) → IsLayout l → length old ≡ l.len → g < entries l → Belongs l g k → Under l k old mid → length new ≡ length mid →
     ((row : ℕ) → row < length mid → get_or new row None ≡ laid l k (stands_at l g k) row (get_or mid row None)) → Under l (k + 1) old new
 under_more l g k old mid new s m u b r e f = record {
   len = e ∙ r.len;
@@ -125,7 +126,7 @@ row_none l n row (Some x) e = ap (λ p. value_under l p x) e
 first_rises : (l : Layout) (row : ℕ) → IsLayout l → row < l.len → lane_start l 0 ≤ lane_start l (entry_of l row)
 first_rises l row s h = starts_rise l 0 (entry_of l row) s (omega arith) (omega (arith, entry_of_within l row s h))
 
-pub under_none : (l : Layout) (n : ℕ) (old : List (Option Value)) → IsLayout l → length old ≡ l.len → n ≡ lane_start l 0 → Under l n old old
+under_none : (l : Layout) (n : ℕ) (old : List (Option Value)) → IsLayout l → length old ≡ l.len → n ≡ lane_start l 0 → Under l n old old
 under_none l n old s m e = record {
   len = refl;
   each = λ row h. sym (row_none l n row (get_or old row None) (first_none (excepts l row) n (λ k w. excepts_false l row k (λ f. absurd (let b = holds l row k s (omega arith) f in omega (arith, b.from, first_rises l row s (omega arith)))))));
@@ -153,44 +154,59 @@ rows_same l n from (x ∷ xs) (y ∷ ys) e f =
     let tail : ys ≡ rows_under l n (from + 1) xs = rows_same l n (from + 1) xs ys (omega arith) (λ row h. f (suc row) (omega arith) ∙ ap (λ r. row_under l n r (get_or xs row None)) (omega arith)) in
     ap (λ z. z ∷ ys) head ∙ ap (λ zs. row_under l n from x ∷ zs) tail
 
+-- that row by row, and as a list
+as_rows : (l : Layout) (n : ℕ) (old new : List (Option Value)) → Under l n old new → new ≡ overlaid_below l n old
+as_rows l n old new r = rows_same l n 0 old new r.len (λ row h. r.each row h ∙ ap (λ p. row_under l n p (get_or old row None)) (omega arith))
+
+as_each : (l : Layout) (n : ℕ) (old new : List (Option Value)) → new ≡ overlaid_below l n old → Under l n old new
+as_each l n old new e = record {
+  len = ap length e ∙ under_length l n 0 old;
+  each = λ row h. ap (λ rs. get_or rs row None) e ∙ under_at l n 0 old row ∙ ap (λ p. row_under l n p (get_or old row None)) (omega arith);
+}
+
+-- before the first entry no exception is laid, each entry lays its own, and past the last all are
+pub laid_before : (l : Layout) (n : ℕ) (old : List (Option Value)) → IsLayout l → length old ≡ l.len → n ≡ lane_start l 0 → old ≡ overlaid_below l n old
+laid_before l n old s m e = as_rows l n old old (under_none l n old s m e)
+
+pub laid_more : (l : Layout) (g k : ℕ) (old mid new : List (Option Value)) → IsLayout l → length mid ≡ l.len → g < entries l → Belongs l g k → mid ≡ overlaid_below l k old → length new ≡ length mid →
+    ((row : ℕ) → row < length mid → get_or new row None ≡ laid l k (stands_at l g k) row (get_or mid row None)) → new ≡ overlaid_below l (k + 1) old
+laid_more l g k old mid new s m u b r e f =
+    let before : Under l k old mid = as_each l k old mid r in
+    as_rows l (k + 1) old new (under_more l g k old mid new s (omega (arith, before.len)) u b before e f)
+
 row_at : (l : Layout) (n m row : ℕ) (o : Option Value) → exception_below l n row ≡ exception_below l m row → row_under l n row o ≡ row_under l m row o
 unfolding row_under
 row_at l n m row None e = refl
 row_at l n m row (Some x) e = ap (λ p. value_under l p x) e
 
-pub under_all : (l : Layout) (n : ℕ) (old new : List (Option Value)) → IsLayout l → length old ≡ l.len → n ≡ lane_start l (entries l) → Under l n old new → new ≡ overlaid l old
+under_all : (l : Layout) (n : ℕ) (old new : List (Option Value)) → IsLayout l → length old ≡ l.len → n ≡ lane_start l (entries l) → Under l n old new → new ≡ overlaid l old
 under_all l n old new s m e r =
     rows_same l (exceptions l) 0 old new r.len (λ row h.
     r.each row h
     ∙ row_at l n (exceptions l) row (get_or old row None) (ap (λ k. exception_below l k row) e ∙ sym (below_last l row (exceptions l - lane_start l (entries l)) s (omega arith)) ∙ ap (λ k. exception_below l k row) (omega (arith, s.inside)))
     ∙ ap (λ p. row_under l (exceptions l) p (get_or old row None)) (omega arith))
 
-abbrev pub one_if : Option ℕ → ℕ
-one_if None = 0
-one_if (Some x) = 1
+pub laid_all : (l : Layout) (n : ℕ) (old new : List (Option Value)) → IsLayout l → length old ≡ l.len → n ≡ lane_start l (entries l) → new ≡ overlaid_below l n old → new ≡ overlaid l old
+laid_all l n old new s m e r = under_all l n old new s m e (as_each l n old new r)
 
--- how many rows below a bound have an exception among the first k
-unfoldable pub covered : Layout → ℕ → ℕ → ℕ
-covered l k zero = 0
-covered l k (suc row) = covered l k row + one_if (exception_below l k row)
-
+-- no more rows are covered than there are, and one more exception covers no fewer
 pub covered-le : (l : Layout) (k n : ℕ) → covered l k n ≤ n
 unfolding covered
 covered-le l k zero = omega arith
 covered-le l k (suc n) = omega (arith, covered-le l k n, small (exception_below l k n))
   where
-    small : (o : Option ℕ) → one_if o ≤ 1
+    small : (o : Option ℕ) → one_if_some o ≤ 1
     small None = omega arith
     small (Some x) = omega arith
 
-one_up : (l : Layout) (k n : ℕ) → one_if (exception_below l k n) ≤ one_if (exception_below l (k + 1) n)
+one_up : (l : Layout) (k n : ℕ) → one_if_some (exception_below l k n) ≤ one_if_some (exception_below l (k + 1) n)
 one_up l k n = up (exception_below l k n) refl
   where
-    up : (o : Option ℕ) → exception_below l k n ≡ o → one_if (exception_below l k n) ≤ one_if (exception_below l (k + 1) n)
-    up None e = omega (arith, ap one_if e)
+    up : (o : Option ℕ) → exception_below l k n ≡ o → one_if_some (exception_below l k n) ≤ one_if_some (exception_below l (k + 1) n)
+    up None e = omega (arith, ap one_if_some e)
     up (Some x) e =
         let after : exception_below l (k + 1) n ≡ Some x = below_more l k n ∙ ap (λ p. option_or p (cond (excepts l n k) (Some k) None)) e in
-        omega (arith, ap one_if e, ap one_if after)
+        omega (arith, ap one_if_some e, ap one_if_some after)
 
 pub covered-rise : (l : Layout) (k n : ℕ) → covered l k n ≤ covered l (k + 1) n
 unfolding covered
@@ -201,12 +217,12 @@ pub covered-more : (l : Layout) (k n row : ℕ) → IsLayout l → row < n → r
 unfolding covered
 covered-more l k zero row s h w e = absurd (omega arith)
 covered-more l k (suc n) row s h w e =
-    elim (cases_lt row n) as (λ _. covered l k n + one_if (exception_below l k n) + 1 ≤ covered l (k + 1) n + one_if (exception_below l (k + 1) n)) [
+    elim (cases_lt row n) as (λ _. covered l k n + one_if_some (exception_below l k n) + 1 ≤ covered l (k + 1) n + one_if_some (exception_below l (k + 1) n)) [
       | inl below ↦ omega (arith, covered-more l k n row s below w e, one_up l k n)
       | inr above ↦
           let same : row ≡ n = omega arith in
           let f : Excepts l n k = subst (λ (r : ℕ). Excepts l r k) same e in
-          omega (arith, covered-rise l k n, ap one_if (below_none l k n s (omega arith) f), ap one_if (below_here l k n s (omega arith) f))
+          omega (arith, covered-rise l k n, ap one_if_some (below_none l k n s (omega arith) f), ap one_if_some (below_here l k n s (omega arith) f))
     ]
 
 -- what a write leaves

@@ -1,7 +1,8 @@
 -- A part of a layout stands for the same exceptions.
-use Rattle.std.proofs.Common.{◌≡◌, ℕ, zero, suc, ◌+◌, ◌-◌, ◌*◌, ◌/◌, ◌%◌, ◌<◌, ◌≤◌, List, length, slice_index, refl, sym, ◌∙◌, ap, arith, Option, Some, None, Bool, true, false, cond, ◌&&◌, leb, ltb, eqb, nat_lt}
+use Rattle.std.proofs.Common.{◌≡◌, ℕ, zero, suc, ◌+◌, ◌-◌, ◌*◌, ◌/◌, ◌%◌, ◌<◌, ◌≤◌, inl, inr, List, length, slice_index, refl, sym, ◌∙◌, ap, arith, Option, Some, None, Bool, true, false, cond, ◌&&◌, leb, ltb, eqb, nat_lt}
 use Rattle.std.specs.Option.{option_or}
 use Rattle.std.specs.List.{slice_range}
+use Rattle.std.proofs.lemmas.Bool.{cases_eq}
 use Rattle.std.proofs.lemmas.Bool.Decides.{nat_tests}
 use Rattle.std.proofs.lemmas.List.Edits.{length-between, get_or-between}
 use Rattle.std.proofs.Math.Nat.{mul-add-mod_self_right}
@@ -148,3 +149,24 @@ pub chunks_none : (l : Layout) (start end : ℕ) → start ≡ end → layout_ch
 chunks_none l start end h =
     let test : nat_lt start end ≡ false = grind (arith, nat_tests) in
     ap (λ b. cond b (layout_slice l (chunk_row l start) (chunk_row l end)) (layout_part l 0 0 0 1)) test
+
+-- the first row of chunks stands where the layout's does, or at the front of a later chunk
+pub chunk_place : (l : Layout) (start end from to : ℕ) → IsLayout l → start < end → end ≤ chunks_of (l.offset + l.len) → from ≡ chunk_row l start → (layout_slice l from to).offset ≡ cond (eqb start 0 && nat_lt start end) l.offset 0
+unfolding layout_part
+chunk_place l start end from to s h w e =
+    elim (cases_eq start 0) as (λ _. place_of l from ≡ cond (eqb start 0 && nat_lt start end) l.offset 0) [
+      | inl first ↦
+          let test : (eqb start 0 && nat_lt start end) ≡ true = grind (arith, nat_tests) in
+          let same : place_of l from ≡ l.offset = omega (arith, s.offset_within, e, first) in
+          same ∙ sym (ap (λ b. cond b l.offset 0) test)
+      | inr later ↦
+          let test : (eqb start 0 && nat_lt start end) ≡ false = grind (arith, nat_tests) in
+          let front : place_of l from ≡ 0 = omega (arith, s.offset_within, e, later) in
+          front ∙ sym (ap (λ b. cond b l.offset 0) test)
+    ]
+
+pub none_place : (l : Layout) (start end : ℕ) → start ≡ end → (layout_part l 0 0 0 1).offset ≡ cond (eqb start 0 && nat_lt start end) l.offset 0
+unfolding layout_part
+none_place l start end e =
+    let test : (eqb start 0 && nat_lt start end) ≡ false = grind (arith, nat_tests) in
+    sym (ap (λ b. cond b l.offset 0) test)

@@ -1,5 +1,5 @@
 -- Lane layouts, and the exceptions that they stand for.
-use Rattle.std.specs.Prelude.{◌≡◌, ℕ, zero, suc, ◌+◌, ◌-◌, ◌*◌, ◌/◌, ◌%◌, ◌^◌, ◌<◌, ◌≤◌, min, List, [], ◌∷◌, length, get_or, Option, Some, None, Bool, true, false, cond, ◌&&◌, nat_le, nat_lt, ◌==◌, slice_index, IsTrue}
+use Rattle.std.specs.Prelude.{◌≡◌, ℕ, zero, suc, ◌+◌, ◌-◌, ◌*◌, ◌/◌, ◌%◌, ◌^◌, ◌<◌, ◌≤◌, min, List, [], ◌∷◌, ◌++◌, length, get_or, Option, Some, None, Bool, true, false, cond, ◌&&◌, nat_le, nat_lt, ◌==◌, slice_index, IsTrue}
 use Rattle.std.specs.Option.{option_or}
 use Rattle.std.specs.List.{slice_range}
 use Rattle.vx_rows.specs.declared.kinds.PType.TheVariants.{U16, U32}
@@ -102,10 +102,38 @@ exception_below l n row = first_below (excepts l row) n
 abbrev pub exception_of : Layout → ℕ → Option ℕ
 exception_of l row = exception_below l (exceptions l) row
 
+-- exception k of entry g as a pair: its place, counted over all chunks, and its value
+abbrev pub pair_of : Layout → ℕ → ℕ → ℕ × Option Value
+pair_of l g k = (g / l.n_lanes * 1024 + index_of l k, value_of l k)
+
+-- the pairs of n exceptions of entry g from exception k on, and of all exceptions of n entries from g on
+unfoldable pub pairs_from : Layout → ℕ → ℕ → ℕ → List (ℕ × Option Value)
+pairs_from l g k zero = []
+pairs_from l g k (suc n) = pair_of l g k ∷ pairs_from l g (k + 1) n
+
+unfoldable pub pairs_in : Layout → ℕ → ℕ → List (ℕ × Option Value)
+pairs_in l g zero = []
+pairs_in l g (suc n) = pairs_from l g (lane_start l g) (lane_start l (g + 1) - lane_start l g) ++ pairs_in l (g + 1) n
+
+-- what a layout means: the pairs of all entries, as the lane offsets and indices give them
+abbrev pub pairs_of : Layout → List (ℕ × Option Value)
+pairs_of l = pairs_in l 0 (entries l)
+
+-- the value of the first pair at a place
+unfoldable pub paired_with : List (ℕ × Option Value) → ℕ → Option (Option Value)
+paired_with [] place = None
+paired_with (pair ∷ pairs) place = cond (pair.0 == place) (Some pair.1) (paired_with pairs place)
+
 -- a value, or the exception that takes its place
 abbrev pub value_under : Layout → Option ℕ → Value → Option Value
 value_under l None v = Some v
 value_under l (Some k) v = value_of l k
+
+-- a row, or where it is a value what takes its place: nothing stays nothing
+abbrev pub replaced : Option Value → Option (Option Value) → Option Value
+replaced None new = None
+replaced (Some v) None = Some v
+replaced (Some v) (Some new) = new
 
 -- a row under the first n exceptions: nothing stays nothing
 unfoldable pub row_under : Layout → ℕ → ℕ → Option Value → Option Value
@@ -116,9 +144,21 @@ unfoldable pub rows_under : Layout → ℕ → ℕ → List (Option Value) → L
 rows_under l n row [] = []
 rows_under l n row (r ∷ rs) = row_under l n row r ∷ rows_under l n (row + 1) rs
 
--- rows with all exceptions laid over them
+-- rows with the first n exceptions laid over them, and with all
+abbrev pub overlaid_below : Layout → ℕ → List (Option Value) → List (Option Value)
+overlaid_below l n rows = rows_under l n 0 rows
+
 abbrev pub overlaid : Layout → List (Option Value) → List (Option Value)
-overlaid l rows = rows_under l (exceptions l) 0 rows
+overlaid l rows = overlaid_below l (exceptions l) rows
+
+-- how many of the first rows have an exception among the first n
+abbrev pub one_if_some : Option ℕ → ℕ
+one_if_some None = 0
+one_if_some (Some k) = 1
+
+unfoldable pub covered : Layout → ℕ → ℕ → ℕ
+covered l n zero = 0
+covered l n (suc row) = covered l n row + one_if_some (exception_below l n row)
 
 -- a row after exception k was laid at a place counted over all chunks
 unfoldable pub laid : Layout → ℕ → ℕ → ℕ → Option Value → Option Value

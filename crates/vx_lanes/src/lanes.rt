@@ -1,9 +1,10 @@
 //! Checked lane layouts: where a row's exception stands, cuts, and rows with the exceptions laid over them.
-ghost use Rattle.std.specs.Prelude.{◌≡◌, ℕ, ◌+◌, ◌-◌, ◌*◌, ◌/◌, ◌%◌, ◌^◌, ◌<◌, ◌≤◌, ◌==◌, length, get_or, is_some, Some, None, true, cond, nat_lt, IsTrue, IfOk, OnOk, IfErr, IsOkUnless};
+ghost use Rattle.std.specs.Prelude.{◌≡◌, ℕ, ◌+◌, ◌-◌, ◌*◌, ◌/◌, ◌%◌, ◌^◌, ◌<◌, ◌≤◌, ◌==◌, ◌&&◌, List, Option, length, get_or, is_some, option_map, Some, None, true, cond, nat_lt, IsTrue, IfOk, OnOk, IfErr, IsOkUnless};
 ghost use Rattle.vx_rows.specs.Types.{AlikeTypes};
 ghost use Rattle.vx_rows.specs.declared.error.ColumnError;
+ghost use Rattle.vx_rows.specs.declared.value.Value.{Value};
 ghost use Rattle.vx_base.specs.Numbers.{is_integer};
-ghost use Rattle.vx_lanes.specs.Layouts.{IsLayout, layout, chunks_of, chunk_row, lane_start, index_of, value_of, exceptions, exception_of, overlaid, laid, layout_part, layout_slice, layout_chunks};
+ghost use Rattle.vx_lanes.specs.Layouts.{IsLayout, Excepts, layout, chunks_of, chunk_row, entries, lane_start, index_of, value_of, exceptions, exception_of, overlaid, overlaid_below, covered, pairs_of, paired_with, replaced, laid, layout_part, layout_slice, layout_chunks};
 ghost use Rattle.vx_lanes.specs.Rules.{IsFirstBroken, LayoutCause};
 
 use crate::layout::{CHUNK, Layout};
@@ -43,27 +44,27 @@ impl Lanes {
         n_lanes: usize,
         offset: usize,
         lane_offsets: FlatColumn,
-        patch_indices: FlatColumn,
-        patch_values: FlatColumn,
+        indices: FlatColumn,
+        values: FlatColumn,
         steps: &mut Steps<L>,
     ) -> Res<Lanes>
         requires { IsTrue (is_integer dtype.now) }
-        ensures ok { IfOk result (λ l. l ≡ layout len n_lanes offset lane_offsets patch_indices patch_values) }
-        ensures clean { OnOk result (IsFirstBroken dtype.now (layout len n_lanes offset lane_offsets patch_indices patch_values) None) }
-        ensures alike { OnOk result (AlikeTypes patch_values.dtype dtype.now) }
+        ensures ok { IfOk result (λ l. l ≡ layout len n_lanes offset lane_offsets indices values) }
+        ensures clean { OnOk result (IsFirstBroken dtype.now (layout len n_lanes offset lane_offsets indices values) None) }
+        ensures alike { OnOk result (AlikeTypes values.dtype dtype.now) }
         ensures sound { IfOk result (λ l. IsLayout l) }
-        ensures err { IfErr result (LayoutCause dtype.now (layout len n_lanes offset lane_offsets patch_indices patch_values)) }
-        ensures rise { steps.new ≤ steps.old + length lane_offsets.rows + length patch_indices.rows }
+        ensures err { IfErr result (LayoutCause dtype.now (layout len n_lanes offset lane_offsets indices values)) }
+        ensures rise { steps.new ≤ steps.old + length lane_offsets.rows + length indices.rows }
         ensures kept { steps.old ≤ steps.new }
     {
-        let alike = patch_values.dtype().eq_ignore_nullability(dtype);
+        let alike = values.dtype().eq_ignore_nullability(dtype);
         let parts = Layout {
             len,
             n_lanes,
             offset,
             lane_offsets,
-            patch_indices,
-            patch_values,
+            patch_indices: indices,
+            patch_values: values,
         };
         match parts.layout_fault(alike, steps) {
             Some(rule) => Err(ColumnError::Malformed {
@@ -159,18 +160,12 @@ impl Lanes {
     pub fn find<L: Ledger>(&self, i: usize, steps: &mut Steps<L>) -> Option<usize>
         requires { i < self.now.len }
         ensures found { result ≡ exception_of self.now i }
+        ensures only { (exception : ℕ) → Excepts self.now i exception → result ≡ Some exception }
+        ensures means { option_map (value_of self.now) result ≡ paired_with (pairs_of self.now) (self.now.offset + i) }
         ensures rise { steps.new ≤ steps.old + 2 + 1024 / self.now.n_lanes }
         ensures kept { steps.old ≤ steps.new }
     {
-        let row = self.place_at(i);
-        let place = row % CHUNK;
-        let range = self.lane_range(row / CHUNK, place % self.n_lanes(), steps);
-        for k in range.start..range.end {
-            if self.index_at(k, steps) == place {
-                return Some(k);
-            }
-        }
-        None
+        self.find_at(self.place_at(i), steps)
     }
 
     /// The layout of the rows of the range. Copies no row.
@@ -197,6 +192,7 @@ impl Lanes {
         ensures ok { IfOk result (λ p. p.0 ≡ layout_chunks self.now chunks.start chunks.end) }
         ensures start { IfOk result (λ p. p.1.start ≡ cond (nat_lt chunks.start chunks.end) (chunk_row self.now chunks.start) 0) }
         ensures end { IfOk result (λ p. p.1.end ≡ cond (nat_lt chunks.start chunks.end) (chunk_row self.now chunks.end) 0) }
+        ensures offset { IfOk result (λ p. p.0.offset ≡ cond (chunks.start == 0 && nat_lt chunks.start chunks.end) self.now.offset 0) }
         ensures means { IfOk result (λ p. (row : ℕ) → row < p.1.end - p.1.start → exception_of p.0 row ≡ exception_of self.now (p.1.start + row)) }
         ensures err { IsOkUnless result ColumnError.OutOfMemory }
     {
@@ -213,28 +209,50 @@ impl Lanes {
     pub fn overlay<L: Ledger>(&self, rows: &mut [Row], steps: &mut Steps<L>)
         requires { length rows.old ≡ self.now.len }
         ensures rows { rows.new ≡ overlaid self.now rows.old }
+        ensures means { (i : ℕ) → i < length rows.old → get_or rows.new i None ≡ replaced (get_or rows.old i None) (paired_with (pairs_of self.now) (self.now.offset + i)) }
         ensures rise { steps.new ≤ steps.old + length self.now.lane_offsets.rows + exceptions self.now + length rows.old }
         ensures kept { steps.old ≤ steps.new }
     {
-        let offset = self.offset();
+        let count = self.entry_count();
         let mut from = self.lane_offset_at(0, steps);
-        for g in 0..self.lane_offsets().len() - 1 {
-            let to = self.lane_offset_at(g + 1, steps);
-            let chunk = g / self.n_lanes() * CHUNK;
-            for k in from..to {
-                let place = chunk + self.index_at(k, steps);
-                self.lay(k, place, rows, steps);
-            }
+        for entry in 0..count {
+            let to = self.lane_offset_at(entry + 1, steps);
+            self.lay_entry(entry, from, to, rows, steps);
             from = to;
         }
     }
 
-    /// Lays exception `k` over the row that stands at a place counted over all chunks, where there is one.
-    fn lay<L: Ledger>(&self, k: usize, place: usize, rows: &mut [Row], steps: &mut Steps<L>)
-        requires value { k < length self.now.patch_values.rows }
+    /// Lays the exceptions from `from` to below `to`, which are those of an entry, over rows that have the earlier ones.
+    fn lay_entry<L: Ledger>(
+        &self,
+        entry: usize,
+        from: usize,
+        to: usize,
+        rows: &mut [Row],
+        steps: &mut Steps<L>,
+    )
+        requires entry { entry < entries self.now }
+        requires from { from ≡ lane_start self.now entry }
+        requires to { to ≡ lane_start self.now (entry + 1) }
         requires rows { length rows.old ≡ self.now.len }
         ensures len { length rows.new ≡ length rows.old }
-        ensures each { (row : ℕ) → row < length rows.old → get_or rows.new row None ≡ laid self.now k place row (get_or rows.old row None) }
+        ensures rows { (bare : List (Option Value)) → rows.old ≡ overlaid_below self.now from bare → rows.new ≡ overlaid_below self.now to bare }
+        ensures rise { steps.new + covered self.now from (length rows.old) ≤ steps.old + (to - from) + covered self.now to (length rows.old) }
+        ensures kept { steps.old ≤ steps.new }
+    {
+        let chunk = entry / self.n_lanes() * CHUNK;
+        for exception in from..to {
+            let place = chunk + self.index_at(exception, steps);
+            self.lay(exception, place, rows, steps);
+        }
+    }
+
+    /// Lays an exception over the row that stands at a place counted over all chunks, where there is one.
+    fn lay<L: Ledger>(&self, exception: usize, place: usize, rows: &mut [Row], steps: &mut Steps<L>)
+        requires value { exception < length self.now.patch_values.rows }
+        requires rows { length rows.old ≡ self.now.len }
+        ensures len { length rows.new ≡ length rows.old }
+        ensures each { (row : ℕ) → row < length rows.old → get_or rows.new row None ≡ laid self.now exception place row (get_or rows.old row None) }
         ensures inside { self.now.offset ≤ place → steps.new ≤ steps.old + 1 }
         ensures below { place < self.now.offset → steps.new ≡ steps.old }
         ensures above { self.now.offset + self.now.len ≤ place → steps.new ≡ steps.old }
@@ -251,18 +269,18 @@ impl Lanes {
         if !is_value(&rows[row]) {
             return;
         }
-        rows[row] = self.value_at(k, steps);
+        rows[row] = self.value_at(exception, steps);
     }
 
     /// The value of an exception. Raises the steps by one.
-    fn value_at<L: Ledger>(&self, k: usize, steps: &mut Steps<L>) -> Row
-        requires { k < length self.now.patch_values.rows }
-        ensures value { result ≡ value_of self.now k }
+    fn value_at<L: Ledger>(&self, exception: usize, steps: &mut Steps<L>) -> Row
+        requires { exception < length self.now.patch_values.rows }
+        ensures value { result ≡ value_of self.now exception }
         ensures cost { steps.new ≡ steps.old + 1 }
     {
         // Each row fits the type.
         let _ = self.parts.patch_values.dtype();
-        match self.parts.patch_values.int_at(k, steps) {
+        match self.parts.patch_values.int_at(exception, steps) {
             Some(number) => Some(Value::Int(number)),
             None => None,
         }
@@ -277,6 +295,34 @@ impl Lanes {
         self.offset() + i
     }
 
+    /// The number of the exception at a place, counted over all chunks.
+    fn find_at<L: Ledger>(&self, place: usize, steps: &mut Steps<L>) -> Option<usize>
+        requires { place < self.now.offset + self.now.len }
+        ensures found { (i : ℕ) → self.now.offset + i ≡ place → result ≡ exception_of self.now i }
+        ensures only { (i exception : ℕ) → self.now.offset + i ≡ place → Excepts self.now i exception → result ≡ Some exception }
+        ensures means { (i : ℕ) → self.now.offset + i ≡ place → option_map (value_of self.now) result ≡ paired_with (pairs_of self.now) (self.now.offset + i) }
+        ensures rise { steps.new ≤ steps.old + 2 + 1024 / self.now.n_lanes }
+        ensures kept { steps.old ≤ steps.new }
+    {
+        let n_lanes = self.n_lanes();
+        let index = place % CHUNK;
+        let range = self.lane_range(place / CHUNK, index % n_lanes, steps);
+        for exception in range.start..range.end {
+            if self.index_at(exception, steps) == index {
+                return Some(exception);
+            }
+        }
+        None
+    }
+
+    /// How many entries there are: one for each lane of each chunk.
+    fn entry_count(&self) -> usize
+        ensures count { result ≡ entries self.now }
+        ensures layout { IsLayout self.now }
+    {
+        self.parts.lane_offsets.len() - 1
+    }
+
     /// Where an entry's exceptions start. Raises the steps by one.
     fn lane_offset_at<L: Ledger>(&self, entry: usize, steps: &mut Steps<L>) -> usize
         requires { entry < length self.now.lane_offsets.rows }
@@ -287,12 +333,12 @@ impl Lanes {
     }
 
     /// The index of an exception. Raises the steps by one.
-    fn index_at<L: Ledger>(&self, k: usize, steps: &mut Steps<L>) -> usize
-        requires { k < exceptions self.now }
-        ensures index { result ≡ index_of self.now k }
+    fn index_at<L: Ledger>(&self, exception: usize, steps: &mut Steps<L>) -> usize
+        requires { exception < exceptions self.now }
+        ensures index { result ≡ index_of self.now exception }
         ensures cost { steps.new ≡ steps.old + 1 }
     {
-        self.parts.index_at(k, steps)
+        self.parts.index_at(exception, steps)
     }
 
     /// So many rows from a place of a chunk on, with the lane offsets from `from` to below `to`.

@@ -5,7 +5,6 @@ ghost use Rattle.vx_lanes.specs.Layouts.{is_u16, is_u32, chunks_of, lane_start, 
 ghost use Rattle.vx_base.specs.Rules.{first_broken};
 ghost use Rattle.vx_lanes.specs.Rules.{layout_fault, offset_rules, index_rules, value_rules, any_between, over_range, off_lane, off_order, too_long, lane_count, lane_offset, lane_offsets_type, lane_offsets_length, lane_offsets_fall, lane_offsets_end, lane_index_type, lane_lengths, lane_too_many, lane_index_range, lane_index_lane, lane_index_order, lane_value_null};
 
-use crate::numbers::number_at;
 use vx_base::checks::{all_valid, non_decreasing};
 use vx_base::{DType, FlatColumn, Ledger, Nullability, PType, Rule, Steps};
 
@@ -209,7 +208,7 @@ impl Layout {
     fn breaks_lane_too_many(&self) -> bool
         ensures { result ≡ lane_too_many self.now }
     {
-        self.patch_indices.len() > 4294967295
+        self.patch_indices.len() > u32::MAX as usize
     }
 
     #[tactic(auto, unfolding(crate::specs::Rules::lane_value_null))]
@@ -226,17 +225,17 @@ impl Layout {
         ensures offset { result ≡ lane_start self.now entry }
         ensures cost { steps.new ≡ steps.old + 1 }
     {
-        number_at(&self.lane_offsets, entry, steps)
+        self.lane_offsets.number_at(entry, steps)
     }
 
     /// The index of an exception. Raises the steps by one.
-    pub(crate) fn index_at<L: Ledger>(&self, k: usize, steps: &mut Steps<L>) -> usize
+    pub(crate) fn index_at<L: Ledger>(&self, exception: usize, steps: &mut Steps<L>) -> usize
         requires unsigned { IsTrue (is_unsigned self.now.patch_indices.dtype) }
-        requires inside { k < exceptions self.now }
-        ensures index { result ≡ index_of self.now k }
+        requires inside { exception < exceptions self.now }
+        ensures index { result ≡ index_of self.now exception }
         ensures cost { steps.new ≡ steps.old + 1 }
     {
-        number_at(&self.patch_indices, k, steps)
+        self.patch_indices.number_at(exception, steps)
     }
 
     /// Where an entry's exceptions start, of which the last entry's `end` is known and not read again.
@@ -277,9 +276,9 @@ impl Layout {
             last: 0,
         };
         let mut from = self.start_of(0, end, steps);
-        for g in 0..self.lane_offsets.len() - 1 {
-            let to = self.start_of(g + 1, end, steps);
-            faults = self.entry_faults(g % self.n_lanes, from, to, faults, steps);
+        for entry in 0..self.lane_offsets.len() - 1 {
+            let to = self.start_of(entry + 1, end, steps);
+            faults = self.entry_faults(entry % self.n_lanes, from, to, faults, steps);
             from = to;
         }
         faults
@@ -304,9 +303,9 @@ impl Layout {
         ensures cost { steps.new ≡ steps.old + (to - from) }
     {
         let mut faults = before;
-        for k in from..to {
-            let index = self.index_at(k, steps);
-            faults = faults.with(index, lane, self.n_lanes, k == from);
+        for exception in from..to {
+            let index = self.index_at(exception, steps);
+            faults = faults.with(index, lane, self.n_lanes, exception == from);
         }
         faults
     }

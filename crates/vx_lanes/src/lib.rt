@@ -4,7 +4,6 @@
 pub mod data;
 pub mod lanes;
 pub mod layout;
-mod numbers;
 #[cfg(test)]
 mod tests;
 

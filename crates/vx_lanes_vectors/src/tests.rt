@@ -6,7 +6,7 @@ mod finds;
 mod overlays;
 
 use std::alloc::Global;
-use vx_base::{DType, FlatColumn, Ledger, Nullability, PType, Res, Seq, Steps, Value};
+use vx_base::{DType, FlatColumn, Ledger, NoLedger, Nullability, PType, Res, Seq, Steps, Value};
 use vx_lanes::Lanes;
 
 /// A column of these numbers.
@@ -114,4 +114,24 @@ fn one_chunk<L: Ledger>(alloc: Global, steps: &mut Steps<L>) -> Res<Lanes>
         &[65535, 65535, 65535],
         steps,
     )
+}
+
+/// Three rows in one lane: exceptions at the first and the last.
+fn two_of_three(rt: &HostRuntime) -> Res<Lanes>
+    ensures { IfOk result (λ l. l.len ≡ 3) }
+{
+    let mut steps = Steps::new(rt, NoLedger::new());
+    lanes(rt.alloc(), 3, 1, &[0, 2], &[0, 2], &[7, 8], &mut steps)
+}
+
+/// The rows that have an exception, each with the exception's number.
+fn found_in(rt: &HostRuntime, layout: &Lanes) -> Res<Vec<(usize, usize)>> {
+    let mut steps = Steps::new(rt, NoLedger::new());
+    let mut found = Vec::new(rt.alloc());
+    for row in 0..layout.len() {
+        if let Some(exception) = layout.find(row, &mut steps) {
+            found.push((row, exception))?;
+        }
+    }
+    Ok(found)
 }

@@ -1,5 +1,5 @@
 -- New places that break no rule keep all that an index keeps.
-use Rattle.std.proofs.Common.{◌≡◌, ℕ, zero, suc, ◌+◌, ◌-◌, ◌*◌, ◌/◌, ◌%◌, ◌^◌, ◌≤◌, ◌<◌, ◌≢◌, Bool, true, false, cond, ◌&&◌, nat_le, nat_eq, List, [], ◌∷◌, ◌++◌, length, get_or, refl, sym, ◌∙◌, ap, subst, arith}
+use Rattle.std.proofs.Common.{◌≡◌, ℕ, zero, suc, ◌+◌, ◌-◌, ◌*◌, ◌/◌, ◌%◌, ◌^◌, ◌≤◌, ◌<◌, Bool, true, false, cond, ◌&&◌, nat_le, nat_eq, List, [], ◌∷◌, ◌++◌, length, get_or, refl, sym, ◌∙◌, ap, subst, arith}
 use Rattle.std.specs.Prelude.{Option, Some, None, not}
 use Rattle.std.specs.List.Sorted.{IsStrictlyIncreasing}
 use Rattle.std.proofs.lemmas.Bool.{false≢true, and_parts}
@@ -8,14 +8,14 @@ use Rattle.std.proofs.lemmas.List.{get_or_default}
 use Rattle.vx_rows.specs.declared.error.ColumnError.{ColumnError}
 use Rattle.vx_rows.specs.declared.error.ColumnError.TheVariants.{Malformed}
 use Rattle.vx_rows.specs.declared.error.Rule.{Rule}
-use Rattle.vx_rows.specs.declared.error.Rule.TheVariants.{ValueCount}
 use Rattle.vx_base.specs.Column.{Flat}
 use Rattle.vx_base.specs.Numbers.{numbers_of, is_unsigned}
 use Rattle.vx_base.specs.Checks.{count_below, counts_below, all_within}
 use Rattle.vx_base.proofs.CheckLemmas.{strictly_increasing-says, within_at, length_numbers}
-use Rattle.vx_patches.specs.Places.{Index, IsIndex, HaveChunks, HaveChunkOffsets, chunks_over, indices_of}
+use Rattle.vx_patches.specs.Places.{Index, IsIndex, HaveChunks, HaveChunkOffsets, chunks_over}
 use Rattle.vx_base.specs.Rules.{first_broken, Refuses}
-use Rattle.vx_patches.specs.Making.{index_rules, chunk_rules, places_fault, index_fault, chunk_fault, patches_fault, differ_in_number, made}
+use Rattle.vx_patches.specs.Making.{index_rules, value_rules, chunk_rules, places_fault, index_fault, chunk_fault, patches_fault, made}
+use Rattle.vx_patches.specs.Pairs.{IsOverlay, overlay}
 use Rattle.vx_patches.proofs.Counts.{Rising, Rising-from_increasing, rise-le, count_is, count-le, count-le-length}
 
 zero_at : (offset : ℕ) → 1024 * (offset / 1024 + 0) ≤ offset
@@ -175,23 +175,37 @@ refused-front ps qs e r = by_fault (first_broken ps) refl r
 pub refused-behind : (ps qs : List (Rule × Bool)) (e : ColumnError) → first_broken ps ≡ None → Refuses (first_broken qs) e → Refuses (first_broken (ps ++ qs)) e
 refused-behind ps qs e f r = subst (λ (p : Option Rule). Refuses p e) (sym (broken-append ps qs f)) r
 
--- the number of values is tried after the indices
-pub broken_count : (index : Index) (len offset : ℕ) (indices values : Flat) (offsets : Option Flat) → index ≡ made len offset indices None → index_fault len offset indices None ≡ None →
-    length values.rows ≢ length (indices_of index) → patches_fault len offset indices values offsets ≡ Some ValueCount
-unfolding first_broken
-broken_count index len offset indices values offsets f e h =
-    let differ : length values.rows ≢ length indices.rows = λ same. h (same ∙ sym (length_numbers indices.rows) ∙ sym (ap (λ (n : Index). length (indices_of n)) f)) in
-    let apart : nat_eq (length values.rows) (length indices.rows) ≡ false = grind (arith, nat_tests) in
-    broken-append (index_rules len offset indices) ((ValueCount, differ_in_number values indices) ∷ chunk_rules len offset indices offsets) e
-    ∙ ap (λ (b : Bool). cond (not b) (Some ValueCount) (chunk_fault len offset indices offsets)) apart
+-- the rules of values are tried after those of the indices
+pub broken_values : (len offset : ℕ) (indices values : Flat) (offsets : Option Flat) (rule : Rule) → index_fault len offset indices None ≡ None →
+    first_broken (value_rules indices values) ≡ Some rule → patches_fault len offset indices values offsets ≡ Some rule
+broken_values len offset indices values offsets rule e f =
+    broken-append (index_rules len offset indices) (value_rules indices values ++ chunk_rules len offset indices offsets) e
+    ∙ broken-front (value_rules indices values) (chunk_rules len offset indices offsets) rule f
 
--- and the chunk offsets after the number of values
+-- and those of the chunk offsets after both
 pub broken_chunks : (index : Index) (len offset : ℕ) (indices values : Flat) (offsets : Option Flat) → index ≡ made len offset indices None → index_fault len offset indices None ≡ None →
-    length values.rows ≡ length (indices_of index) → patches_fault len offset indices values offsets ≡ chunk_fault index.len index.offset index.indices offsets
+    first_broken (value_rules indices values) ≡ None → patches_fault len offset indices values offsets ≡ chunk_fault index.len index.offset index.indices offsets
+broken_chunks index len offset indices values offsets made_of e f =
+    broken-append (index_rules len offset indices) (value_rules indices values ++ chunk_rules len offset indices offsets) e
+    ∙ broken-append (value_rules indices values) (chunk_rules len offset indices offsets) f
+    ∙ sym (ap (λ (n : Index). chunk_fault n.len n.offset n.indices offsets) made_of)
+
+-- what the rules say of the indices of new places, they say of the indices
+pub value_fault_of : (index : Index) (seen : Flat) (len offset : ℕ) (indices values : Flat) → seen ≡ index.indices → index ≡ made len offset indices None →
+    first_broken (value_rules indices values) ≡ first_broken (value_rules seen values)
+value_fault_of index seen len offset indices values s made_of = sym (ap (λ (c : Flat). first_broken (value_rules c values)) (s ∙ ap (λ (n : Index). n.indices) made_of))
+
+values_number : (indices values : Flat) → first_broken (value_rules indices values) ≡ None → length values.rows ≡ length indices.rows
 unfolding first_broken
-broken_chunks index len offset indices values offsets f e h =
-    let number : length values.rows ≡ length indices.rows = h ∙ ap (λ (n : Index). length (indices_of n)) f ∙ length_numbers indices.rows in
-    let same : nat_eq (length values.rows) (length indices.rows) ≡ true = grind (arith, nat_tests) in
-    broken-append (index_rules len offset indices) ((ValueCount, differ_in_number values indices) ∷ chunk_rules len offset indices offsets) e
-    ∙ ap (λ (b : Bool). cond (not b) (Some ValueCount) (chunk_fault len offset indices offsets)) same
-    ∙ sym (ap (λ (n : Index). chunk_fault n.len n.offset n.indices offsets) f)
+values_number indices values e =
+    let h = first_holds _ _ _ e in
+    let same : nat_eq (length values.rows) (length indices.rows) ≡ true = not_false _ h.0 in
+    grind (arith, nat_tests)
+
+-- places, and values that break no rule
+pub overlay_made : (index places : Index) (seen values : Flat) (offsets : Option Flat) → IsIndex index → index ≡ made places.len places.offset places.indices offsets → seen ≡ places.indices →
+    first_broken (value_rules seen values) ≡ None → IsOverlay (overlay index values)
+overlay_made index places seen values offsets i made_of s e =
+    let number : length values.rows ≡ length seen.rows = values_number seen values e in
+    let same : seen ≡ index.indices = s ∙ sym (ap (λ (n : Index). n.indices) made_of) in
+    record { index = i; values = number ∙ ap (λ (c : Flat). length c.rows) same ∙ sym (length_numbers index.indices.rows) }

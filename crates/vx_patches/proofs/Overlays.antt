@@ -5,7 +5,7 @@ use Rattle.std.specs.List.{zip, slice_range}
 use Rattle.std.specs.List.Sorted.{IsStrictlyIncreasing}
 use Rattle.std.proofs.lemmas.Bool.{cases_Bool}
 use Rattle.std.proofs.lemmas.Bool.Decides.{nat_tests}
-use Rattle.std.proofs.lemmas.List.{length-map, get_or-map}
+use Rattle.std.proofs.lemmas.List.{length-map}
 use Rattle.std.proofs.lemmas.Slice.Zip.{firsts-zip}
 use Rattle.vx_base.specs.Column.{Flat}
 use Rattle.vx_search.specs.declared.result.SearchResult.TheVariants.{Found, NotFound}
@@ -13,7 +13,7 @@ use Rattle.vx_patches.specs.Places.{Index, indices_of, rows_of}
 use Rattle.vx_patches.specs.Search.{place_among}
 use Rattle.vx_patches.specs.Slices.{IsSliceOf, lies_inside, rows_inside, place_of, part_of, window}
 use Rattle.vx_patches.specs.Pairs.{Overlay, IsOverlay, overlay, pairs_by, pairs_of, pairs_inside, firsts, value_at, IsPart}
-use Rattle.vx_patches.proofs.Counts.{Rising, above_first, length-slice, count-le-length}
+use Rattle.vx_patches.proofs.Counts.{Rising, length-slice, count-le-length}
 use Rattle.vx_patches.proofs.Insides.{pairs_yes, pairs_no, rows_yes, rows_no}
 use Rattle.vx_patches.proofs.Searches.{stands_at, stands_nowhere}
 use Rattle.vx_patches.proofs.Slices.{rising_rows, slice_numbers, whole_part, whole_window}
@@ -81,13 +81,6 @@ module _ (o now : Overlay) (v : o ≡ now) (i : IsOverlay o) where
   pub missing_value : (row p : ℕ) → NotFound p ≡ place_among (firsts (pairs_of now)) row → None ≡ value_at row (pairs_of now)
   missing_value row p e =
       sym (value_missing (rows_of o.index) o.values.rows row (stands_nowhere row (rows_of o.index) p (e ∙ ap (λ (ns : List ℕ). place_among ns row) (sym rows_now)))) ∙ ap (λ (n : Overlay). value_at row (pairs_of n)) v
-
-  -- an index and its row
-  pub row_is : (k : ℕ) → k < length (indices_of o.index) → (o.index.offset ≤ get_or (indices_of o.index) k 0) × (get_or (indices_of o.index) k 0 - o.index.offset ≡ get_or (firsts (pairs_of now)) k 0)
-  row_is k h = (
-    above_first o.index.offset (indices_of o.index) i.index.rising i.index.above k h,
-    sym (get_or-map (λ (n : ℕ). n - o.index.offset) (indices_of o.index) k 0 0 h) ∙ ap (λ (ns : List ℕ). get_or ns k 0) rows_now,
-  )
 
   pub none_inside : (s e : ℕ) → rows_inside s e (rows_of o.index) ≡ [] → pairs_inside s e (pairs_of now) ≡ []
   none_inside s e h = no_pairs (pairs_inside s e (pairs_of now)) (firsts_inside s e (pairs_of now) ∙ ap (rows_inside s e) (sym rows_now) ∙ h)

@@ -52,6 +52,9 @@ index_rules len offset indices =
     (TooLong, too_long len offset) ∷ (NoExceptions, no_exceptions indices) ∷ (IndexType, wrong_type indices) ∷ (IndexOrder, out_of_order indices)
     ∷ (IndexBelowOffset, below_offset offset indices) ∷ (IndexPastEnd, past_end (offset + len) indices) ∷ []
 
+abbrev pub value_rules : Flat → Flat → List (Rule × Bool)
+value_rules indices values = (ValueCount, differ_in_number values indices) ∷ []
+
 -- no rule where there are no chunk offsets
 abbrev pub chunk_rules : ℕ → ℕ → Flat → Option Flat → List (Rule × Bool)
 chunk_rules len offset indices None = []
@@ -72,8 +75,7 @@ index_fault len offset indices offsets = first_broken (index_rules len offset in
 
 -- the first rule that exceptions break
 abbrev pub patches_fault : ℕ → ℕ → Flat → Flat → Option Flat → Option Rule
-patches_fault len offset indices values offsets =
-    first_broken (index_rules len offset indices ++ ((ValueCount, differ_in_number values indices) ∷ chunk_rules len offset indices offsets))
+patches_fault len offset indices values offsets = first_broken (index_rules len offset indices ++ (value_rules indices values ++ chunk_rules len offset indices offsets))
 
 -- places as they are made, of which nothing is cut away
 abbrev pub made : ℕ → ℕ → Flat → Option Flat → Index

@@ -1,7 +1,7 @@
 //! Where exceptions stand.
-ghost use Rattle.std.specs.Prelude.{◌≡◌, ◌≢◌, ◌+◌, ◌-◌, ◌*◌, ◌<◌, ◌≤◌, ◌==◌, cond, length, [], None, IfOk, OnOk, IfErr, IsOkUnless};
+ghost use Rattle.std.specs.Prelude.{◌≡◌, ◌≢◌, ◌+◌, ◌-◌, ◌*◌, ◌<◌, ◌≤◌, ◌==◌, cond, length, slice_index, [], None, IfOk, OnOk, IfErr, IsOkUnless};
 ghost use Rattle.vx_rows.specs.declared.error.ColumnError.TheVariants.{OutOfMemory, Malformed};
-ghost use Rattle.vx_search.specs.Places.{search_bound};
+ghost use Rattle.vx_search.specs.Places as searches;
 ghost use Rattle.vx_patches.specs.Places.{IsIndex, indices_of, rows_of, within_chunk};
 ghost use Rattle.vx_base.specs.Ranges.{ends_cut, SliceCause};
 ghost use Rattle.vx_base.specs.Rules.{Refuses};
@@ -15,10 +15,19 @@ use std::alloc::Global;
 use std::marker::Model;
 use std::ops::Range;
 use vx_base::{ColumnError, FlatColumn, Ledger, Path, Res, Rule, Steps};
-use vx_search::SearchResult;
+use vx_search::{SearchResult, search_bound};
 
 /// The number of rows in a chunk: chunk offsets have one entry for each chunk.
 pub const PATCH_CHUNK_SIZE: usize = 1024;
+
+/// The most chunk offsets that a search reads.
+const OFFSET_READS: u64 = 3;
+
+/// The most comparisons of a search in one chunk.
+const CHUNK_COMPARISONS: u64 = 22;
+
+/// The chunk offsets that are read to cut the front of them.
+const FRONT_READS: u64 = 2;
 
 /// The rows that have an exception, as indices that rise, each the row plus the offset. With chunk offsets a search looks
 /// at the exceptions of one chunk alone.
@@ -59,7 +68,7 @@ impl PatchIndex {
         ensures err { IfErr result (Refuses (index_fault array_len offset indices chunk_offsets)) }
         ensures clean { OnOk result (index_fault array_len offset indices chunk_offsets ≡ None) }
     {
-        if let Some(rule) = rules::index_fault(array_len, offset, &indices) {
+        if let Some(rule) = rules::places_fault(array_len, offset, &indices) {
             return Err(malformed(alloc, rule));
         }
         let places = PatchIndex {
@@ -174,21 +183,49 @@ impl PatchIndex {
     /// The place of a row among those with an exception: found, or where it belongs. Any row number may be asked for.
     pub fn search_index<L: Ledger>(&self, index: usize, steps: &mut Steps<L>) -> SearchResult
         ensures place { result ≡ place_among (rows_of self.now) index }
-        ensures rise { steps.new ≤ steps.old + search_cost self.now }
+        ensures rise { steps.new ≤ steps.old + (offset_reads self.now.chunk_offsets + comparisons self.now.chunk_offsets (length (indices_of self.now))) }
         ensures kept { steps.old ≤ steps.new }
     {
         if index >= self.array_len {
-            return SearchResult::NotFound(self.indices.len());
+            return self.behind_all(index);
         }
         let (start, end) = self.places_near(index, steps);
         search_between(&self.indices, start, end, index + self.offset, steps)
+    }
+
+    /// The place of a row past the end.
+    fn behind_all(&self, index: usize) -> SearchResult
+        requires { self.now.len ≤ index }
+        ensures { result ≡ place_among (rows_of self.now) index }
+    {
+        SearchResult::NotFound(self.indices.len())
+    }
+
+    /// The most that a search raises the steps by.
+    pub fn search_cost(&self) -> u64
+        ensures { result ≡ search_cost self.now }
+    {
+        match self.chunk_offsets() {
+            Some(_) => OFFSET_READS + CHUNK_COMPARISONS,
+            None => search_bound(self.num_patches()),
+        }
+    }
+
+    /// The most that a cut end of a slice raises the steps by.
+    pub fn cut_cost(&self) -> u64
+        ensures { result ≡ cut_cost self.now }
+    {
+        match self.chunk_offsets() {
+            Some(_) => OFFSET_READS + CHUNK_COMPARISONS + FRONT_READS,
+            None => search_bound(self.num_patches()),
+        }
     }
 
     /// From and to which place the exceptions of a row's chunk stand.
     fn places_near<L: Ledger>(&self, index: usize, steps: &mut Steps<L>) -> (usize, usize)
         requires { index < self.now.len }
         ensures between { IsBetween (indices_of self.now) (index + self.now.offset) result.0 result.1 }
-        ensures few { search_bound (result.1 - result.0) ≤ comparisons self.now.chunk_offsets (length (indices_of self.now)) }
+        ensures few { searches.search_bound (result.1 - result.0) ≤ comparisons self.now.chunk_offsets (length (indices_of self.now)) }
         ensures reads { steps.new ≤ steps.old + offset_reads self.now.chunk_offsets }
         ensures kept { steps.old ≤ steps.new }
     {
@@ -198,6 +235,25 @@ impl PatchIndex {
         };
         let chunk = (index + self.offset % PATCH_CHUNK_SIZE) / PATCH_CHUNK_SIZE;
         chunk_places(offsets, self.within, chunk, count, steps)
+    }
+
+    /// The index at a place. Raises the steps by one.
+    fn index_at<L: Ledger>(&self, place: usize, steps: &mut Steps<L>) -> usize
+        requires { place < length (indices_of self.now) }
+        ensures index { result ≡ slice_index (indices_of self.now) place }
+        ensures above { self.now.offset ≤ result }
+        ensures cost { steps.new ≡ steps.old + 1 }
+    {
+        self.indices.number_at(place, steps)
+    }
+
+    /// The row that has the exception at a place. Raises the steps by one.
+    pub(crate) fn row_at<L: Ledger>(&self, place: usize, steps: &mut Steps<L>) -> usize
+        requires { place < length (indices_of self.now) }
+        ensures row { result ≡ slice_index (rows_of self.now) place }
+        ensures cost { steps.new ≡ steps.old + 1 }
+    {
+        self.index_at(place, steps) - self.offset
     }
 
     /// The exceptions of the rows from the range's start to below its end, and their places; None where none is left. The

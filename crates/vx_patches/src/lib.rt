@@ -6,8 +6,6 @@ pub mod laws;
 pub mod patches;
 mod rules;
 mod search;
-#[cfg(test)]
-mod tests;
 
 pub use index::{PATCH_CHUNK_SIZE, PatchIndex};
 pub use patches::Patches;

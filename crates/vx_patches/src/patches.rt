@@ -7,16 +7,16 @@ ghost use Rattle.vx_patches.specs.Places.{IsIndex, indices_of, rows_of, within_c
 ghost use Rattle.vx_base.specs.Ranges.{ends_cut, SliceCause};
 ghost use Rattle.vx_base.specs.Rules.{Refuses};
 ghost use Rattle.vx_patches.specs.Making.{patches_fault, made};
-ghost use Rattle.vx_patches.specs.Search.{place_among, search_cost};
+ghost use Rattle.vx_patches.specs.Search.{place_among, offset_reads, comparisons, search_cost};
 ghost use Rattle.vx_patches.specs.Slices.{cut_cost};
 ghost use Rattle.vx_patches.specs.Pairs.{overlay, IsOverlay, pairs_of, firsts, value_at, IsPart, IsAll, IsEntry, EntryCause};
 
 use crate::index::{PatchIndex, malformed};
-use crate::search::number_at;
+use crate::rules;
 use std::alloc::Global;
 use std::marker::Model;
 use std::ops::Range;
-use vx_base::{ColumnError, DType, FlatColumn, Ledger, PType, Res, Row, Rule, Steps};
+use vx_base::{ColumnError, DType, FlatColumn, Ledger, PType, Res, Row, Steps};
 use vx_search::SearchResult;
 
 /// Exceptions to the rows of a column: a row number and a value each, by rising row. They mean their list of pairs and the
@@ -57,8 +57,8 @@ impl Patches {
         ensures clean { OnOk result (patches_fault array_len offset indices values chunk_offsets ≡ None) }
     {
         let places = PatchIndex::try_new(alloc, array_len, offset, indices, None)?;
-        if values.len() != places.num_patches() {
-            return Err(malformed(alloc, Rule::ValueCount));
+        if let Some(rule) = rules::value_fault(places.indices(), &values) {
+            return Err(malformed(alloc, rule));
         }
         let index = places.with_chunk_offsets(alloc, chunk_offsets)?;
         Ok(Patches { index, values })
@@ -161,13 +161,13 @@ impl Patches {
         if idx >= len {
             return Err(ColumnError::OutOfBounds { index: idx, len });
         }
-        Ok(number_at(offsets, idx, steps))
+        Ok(offsets.number_at(idx, steps))
     }
 
     /// The place of a row among those with an exception: found, or where it belongs. Any row number may be asked for.
     pub fn search_index<L: Ledger>(&self, index: usize, steps: &mut Steps<L>) -> SearchResult
         ensures place { result ≡ place_among (firsts (pairs_of self.now)) index }
-        ensures rise { steps.new ≤ steps.old + search_cost self.now.index }
+        ensures rise { steps.new ≤ steps.old + (offset_reads self.now.index.chunk_offsets + comparisons self.now.index.chunk_offsets (length (indices_of self.now.index))) }
         ensures kept { steps.old ≤ steps.new }
     {
         self.index.search_index(index, steps)
@@ -198,7 +198,7 @@ impl Patches {
         ensures row { result ≡ slice_index (firsts (pairs_of self.now)) 0 }
         ensures cost { steps.new ≡ steps.old + 1 }
     {
-        number_at(self.index.indices(), 0, steps) - self.index.offset()
+        self.index.row_at(0, steps)
     }
 
     /// The last row with an exception. Raises the steps by one.
@@ -206,7 +206,7 @@ impl Patches {
         ensures row { result ≡ slice_index (firsts (pairs_of self.now)) (length (pairs_of self.now) - 1) }
         ensures cost { steps.new ≡ steps.old + 1 }
     {
-        number_at(self.index.indices(), self.num_patches() - 1, steps) - self.index.offset()
+        self.index.row_at(self.index.num_patches() - 1, steps)
     }
 
     /// The exceptions of the rows from the range's start to below its end; None where none is left. No row is copied.

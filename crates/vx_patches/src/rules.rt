@@ -2,28 +2,15 @@
 ghost use Rattle.std.specs.Prelude.{◌≡◌, ◌<◌, ◌+◌, ◌^◌, length, None, IsTrue};
 ghost use Rattle.vx_base.specs.Numbers as spec;
 ghost use Rattle.vx_base.specs.Rules.{first_broken};
-ghost use Rattle.vx_patches.specs.Making.{index_rules, chunk_rules};
+ghost use Rattle.vx_patches.specs.Making.{index_rules, value_rules, chunk_rules};
 
 use crate::index::PATCH_CHUNK_SIZE;
 use vx_base::checks::{all_within, counts_below, strictly_increasing};
-use vx_base::{DType, FlatColumn, Nullability, PType, Rule};
-
-/// Whether the type is an unsigned one without nothings.
-fn is_unsigned(dtype: &DType) -> bool
-    ensures { result ≡ spec.is_unsigned dtype.now }
-{
-    matches!(
-        dtype,
-        DType::Primitive(
-            PType::U8 | PType::U16 | PType::U32 | PType::U64,
-            Nullability::NonNullable
-        )
-    )
-}
+use vx_base::{FlatColumn, Rule};
 
 /// The first rule that the indices break.
 #[tactic(auto, unfolding(vx_base::specs::Rules::first_broken))]
-pub(crate) fn index_fault(array_len: usize, offset: usize, indices: &FlatColumn) -> Option<Rule>
+pub(crate) fn places_fault(array_len: usize, offset: usize, indices: &FlatColumn) -> Option<Rule>
     ensures { result ≡ first_broken (index_rules array_len offset indices.now) }
 {
     let Some(end) = offset.checked_add(array_len) else {
@@ -31,7 +18,7 @@ pub(crate) fn index_fault(array_len: usize, offset: usize, indices: &FlatColumn)
     };
     if indices.is_empty() {
         Some(Rule::NoExceptions)
-    } else if !is_unsigned(indices.dtype()) {
+    } else if !indices.is_unsigned() {
         Some(Rule::IndexType)
     } else if !strictly_increasing(indices) {
         Some(Rule::IndexOrder)
@@ -42,6 +29,17 @@ pub(crate) fn index_fault(array_len: usize, offset: usize, indices: &FlatColumn)
     } else {
         None
     }
+}
+
+/// The rule that the values break: there is one for each index.
+#[tactic(auto, unfolding(vx_base::specs::Rules::first_broken))]
+pub(crate) fn value_fault(indices: &FlatColumn, values: &FlatColumn) -> Option<Rule>
+    ensures { result ≡ first_broken (value_rules indices.now values.now) }
+{
+    if values.len() != indices.len() {
+        return Some(Rule::ValueCount);
+    }
+    None
 }
 
 /// The first rule that the chunk offsets break, for indices that break none.
@@ -58,7 +56,7 @@ pub(crate) fn chunk_fault(
 {
     let offsets = chunk_offsets.as_ref()?;
     let chunks = (offset % PATCH_CHUNK_SIZE + array_len).div_ceil(PATCH_CHUNK_SIZE);
-    if !is_unsigned(offsets.dtype()) {
+    if !offsets.is_unsigned() {
         Some(Rule::ChunkOffsetType)
     } else if offsets.len() != chunks {
         Some(Rule::ChunkOffsetCount)

@@ -10,21 +10,6 @@ ghost use Rattle.vx_patches.specs.Slices.{cut_away};
 use vx_base::{FlatColumn, Ledger, Steps};
 use vx_search::{FlatReader, SearchResult, SearchSortedPrimitiveArray, partition_point_counted};
 
-/// The number of row `i`. Raises the steps by one.
-pub(crate) fn number_at<L: Ledger>(column: &FlatColumn, i: usize, steps: &mut Steps<L>) -> usize
-    requires unsigned { IsTrue (is_unsigned column.now.dtype) }
-    requires inside { i < length column.now.rows }
-    ensures value { result ≡ slice_index (numbers_of column.now.rows) i }
-    ensures cost { steps.new ≡ steps.old + 1 }
-{
-    // Each row fits the type.
-    let _ = column.dtype();
-    match column.int_at(i, steps) {
-        Some(number) => number as usize,
-        None => 0,
-    }
-}
-
 /// The first place from `start` on whose number isn't below `value`, or `end`.
 fn first_from<L: Ledger>(
     column: &FlatColumn,
@@ -69,7 +54,7 @@ pub(crate) fn search_between<L: Ledger>(
     ensures kept { steps.old ≤ steps.new }
 {
     let place = first_from(column, start, end, value, steps);
-    if place < end && number_at(column, place, steps) == value {
+    if place < end && column.number_at(place, steps) == value {
         return SearchResult::Found(place);
     }
     SearchResult::NotFound(place)
@@ -91,13 +76,13 @@ pub(crate) fn chunk_places<L: Ledger>(
     ensures rise { steps.new ≤ steps.old + 3 }
     ensures kept { steps.old ≤ steps.new }
 {
-    let base = number_at(offsets, 0, steps);
-    let first = number_at(offsets, chunk, steps);
+    let base = offsets.number_at(0, steps);
+    let first = offsets.number_at(chunk, steps);
     let start = first.saturating_sub(base).saturating_sub(within).min(count);
     if chunk == offsets.len() - 1 {
         return (start, count);
     }
-    let next = number_at(offsets, chunk + 1, steps);
+    let next = offsets.number_at(chunk + 1, steps);
     (
         start,
         next.saturating_sub(base).saturating_sub(within).min(count),
@@ -124,7 +109,7 @@ pub(crate) fn cut_within<L: Ledger>(
     if chunk == 0 {
         return within + first;
     }
-    let base = number_at(offsets, 0, steps);
-    let entry = number_at(offsets, chunk, steps);
+    let base = offsets.number_at(0, steps);
+    let entry = offsets.number_at(chunk, steps);
     within + first - (entry - base)
 }

@@ -1,6 +1,8 @@
-//! Tests of slices of exceptions.
+//! Tests of exceptions: searches, reads and slices.
 #![tactic(auto)]
 
+#[cfg(test)]
+mod reads;
 #[cfg(test)]
 mod shared;
 #[cfg(test)]

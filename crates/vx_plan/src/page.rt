@@ -31,6 +31,7 @@ impl Model for Page {
 }
 
 impl Page {
+    /// A page of these. That the rows fit the type isn't asked.
     pub fn new(answers: Seq<Answer>, dtype: DType, rows: Seq<Row>) -> Page
         ensures { result ≡ shown answers dtype rows }
     {
@@ -41,18 +42,21 @@ impl Page {
         }
     }
 
+    /// The answers, one for each step that asked, in order.
     pub fn answers(&self) -> &[Answer]
         ensures { result.now ≡ self.now.answers }
     {
         self.answers.as_slice()
     }
 
+    /// The type of the rows.
     pub fn dtype(&self) -> &DType
         ensures { result.now ≡ self.now.dtype }
     {
         &self.dtype
     }
 
+    /// The rows that the last step left.
     pub fn rows(&self) -> &[Row]
         ensures { result.now ≡ self.now.rows }
     {

@@ -116,6 +116,13 @@ fn rows_are_copied(rt: HostRuntime) -> Result<(), Fail> {
     Ok(())
 }
 
+/// A type of numbers without nothings.
+fn unsigned() -> DType
+    ensures { IsTrue (is_unsigned result) }
+{
+    DType::Primitive(PType::U32, Nullability::NonNullable)
+}
+
 /// A column of `u32`.
 fn u32s(alloc: Global, numbers: &[i128]) -> Res<FlatColumn>
     ensures { IfOk result (λ column. IsTrue (is_unsigned column.dtype)) }
@@ -124,8 +131,7 @@ fn u32s(alloc: Global, numbers: &[i128]) -> Res<FlatColumn>
     for number in numbers {
         rows.push(int(*number))?;
     }
-    let dtype = DType::Primitive(PType::U32, Nullability::NonNullable);
-    FlatColumn::try_new(alloc, dtype, rows)
+    FlatColumn::try_new(alloc, unsigned(), rows)
 }
 
 #[test]
@@ -143,6 +149,19 @@ fn one_row_many_times(rt: HostRuntime) -> Result<(), Fail> {
 }
 
 #[test]
+fn numbers_are_read_where_nothing_is_none(rt: HostRuntime) -> Result<(), Fail> {
+    let alloc = rt.alloc();
+    let mut steps = Steps::new(&rt, CountLedger::new());
+    let numbers = FlatColumn::constant(alloc, unsigned(), int(9), 2)?;
+    assert!(rt; numbers.is_unsigned());
+    assert_eq!(rt; numbers.number_at(1, &mut steps), 9);
+    assert_eq!(rt; steps.ledger().count(), 1);
+    let others = FlatColumn::constant(alloc, i32s(), int(9), 2)?;
+    assert!(rt; !others.is_unsigned());
+    Ok(())
+}
+
+#[test]
 fn one_column_is_checked(rt: HostRuntime) -> Result<(), Fail> {
     let alloc = rt.alloc();
     let numbers = u32s(alloc, &[1, 3, 3])?;
@@ -152,6 +171,18 @@ fn one_column_is_checked(rt: HostRuntime) -> Result<(), Fail> {
     assert!(rt; all_within(&numbers, 1, Some(4)));
     assert!(rt; !all_within(&numbers, 1, Some(3)));
     assert!(rt; !all_within(&numbers, 2, None));
+    Ok(())
+}
+
+#[test]
+fn one_column_is_refused(rt: HostRuntime) -> Result<(), Fail> {
+    let alloc = rt.alloc();
+    let fallen = u32s(alloc, &[1, 3, 2])?;
+    assert!(rt; !non_decreasing(&fallen));
+    assert!(rt; !strictly_increasing(&fallen));
+    let nullable = i32s().with_nullability(Nullability::Nullable);
+    let nothing = FlatColumn::constant(alloc, nullable, None, 1)?;
+    assert!(rt; !all_valid(&nothing));
     Ok(())
 }
 
@@ -166,5 +197,6 @@ fn two_columns_are_checked(rt: HostRuntime) -> Result<(), Fail> {
     let lens = [2, 1];
     let named = arrays.len() == rows.len() && all_within(&arrays, 0, Some(lens.len()));
     assert!(rt; named && selectors_within(&arrays, &rows, &lens));
+    assert!(rt; named && !selectors_within(&arrays, &rows, &[1, 1]));
     Ok(())
 }

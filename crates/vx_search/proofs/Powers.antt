@@ -55,6 +55,10 @@ less_by_one s s' (suc c) some fits half = omega (arith, log_least s' c (omega (a
 pub log_halved : (s s' : ℕ) → 1 < s → 2 * s' ≤ s + 1 → log_up s' + 1 ≤ log_up s
 log_halved s s' some half = less_by_one s s' (log_up s) some (log_fits s) half
 
+-- and leaves no fewer than half of them
+pub log_doubled : (s s' : ℕ) → s ≤ 2 * s' → log_up s ≤ log_up s' + 1
+log_doubled s s' h = log_least s (log_up s' + 1) (omega (arith, pow_more (log_up s'), log_fits s'))
+
 -- the rise of one more question
 pub spent_more : (now next old cost : ℕ) (s s' n : ℕ) → 1 < s → 2 * s' ≤ s + 1 → now + log_up s * cost ≤ old + log_up n * cost → next ≤ now + cost
     → next + log_up s' * cost ≤ old + log_up n * cost
@@ -62,7 +66,7 @@ spent_more now next old cost s s' n some half spent rise =
     let grows : (log_up s' + 1) * cost ≤ log_up s * cost = mul-le-mul_right cost (log_halved s s' some half) in
     omega arith
 
-rounds_some : (n : ℕ) → 0 < n → rounds n ≡ log_up n + 1
+pub rounds_some : (n : ℕ) → 0 < n → rounds n ≡ log_up n + 1
 rounds_some zero h = absurd (omega arith)
 rounds_some (suc n) h = refl
 
@@ -77,7 +81,7 @@ unfolding search_bound
 twice_rounds zero = refl
 twice_rounds (suc n) = omega arith
 
-rounds_le : (m n : ℕ) → m ≤ n → rounds m ≤ rounds n
+pub rounds_le : (m n : ℕ) → m ≤ n → rounds m ≤ rounds n
 rounds_le zero n h = omega arith
 rounds_le (suc m) zero h = absurd (omega arith)
 rounds_le (suc m) (suc n) h = omega (arith, log_le (suc m) (suc n) h)
@@ -108,6 +112,11 @@ first_by old next n one = omega (arith, first_rise old next 1 n n refl (omega ar
 
 pub second_by : (old middle next n p : ℕ) → p ≤ n → middle ≤ old + rounds (n - 0) → next ≤ middle + rounds p → next ≤ old + search_bound n
 second_by old middle next n p h one two = omega (arith, second_rise old middle next 1 1 n n p refl h refl (omega arith) (omega arith))
+
+pub least_by : (old middle next n : ℕ) → middle ≤ next → old + rounds (n - 0) ≤ middle → old + rounds n ≤ next
+least_by old middle next n h one =
+    let same : rounds (n - 0) ≡ rounds n = ap rounds (omega arith) in
+    omega (arith, same)
 
 -- one more than a power of two has a greater logarithm
 pub over_power : (s : ℕ) → 2 ^ log_up s ≤ s → log_up s + 1 ≤ log_up (s + 1)

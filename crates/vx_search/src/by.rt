@@ -1,5 +1,6 @@
 //! Searches that ask closures in place of a sequence.
-ghost use Rattle.std.specs.Prelude.{◌≡◌, ℕ, ◌+◌, ◌-◌, ◌*◌, ◌<◌, ◌≤◌, ◌⊎◌, IfOk, IfErr, Err};
+ghost use Rattle.std.specs.Prelude.{◌≡◌, ℕ, ◌+◌, ◌-◌, ◌*◌, ◌<◌, ◌≤◌, ◌⊎◌, IfOk, IfErr};
+ghost use Rattle.std.specs.Fn.{Called};
 ghost use Rattle.std.specs.declared.cmp.Ordering.{Ordering};
 ghost use Rattle.vx_search.specs.Closures.{AnswersBelow, RefusesBelow};
 ghost use Rattle.vx_search.specs.Halving.{Ascends, EdgeOf, IsBorder, IsPlaceBy, IsWhere, rounds};
@@ -9,6 +10,20 @@ use crate::result::{SearchResult, SearchSortedSide};
 use std::cmp::Ordering;
 use vx_base::{Ledger, Res, Steps};
 
+/// Asks a closure about one place. The question raises the steps by one.
+fn ask_by<F: FnMut(usize) -> Res<Ordering>, L: Ledger>(
+    find: &mut F,
+    place: usize,
+    steps: &mut Steps<L>,
+) -> Res<Ordering>
+    requires { F.pre find.old place }
+    ensures called { Called F.FnMut find.old (place, tt) result find.new }
+    ensures cost { steps.new ≡ steps.old + 1 }
+{
+    steps.tick();
+    find(place)
+}
+
 /// Searches the places from `from` to below `to` by what a closure answers. Each question raises the steps by one.
 pub(crate) fn halve_by<F: FnMut(usize) -> Res<Ordering>, L: Ledger>(
     mut find: F,
@@ -17,11 +32,12 @@ pub(crate) fn halve_by<F: FnMut(usize) -> Res<Ordering>, L: Ledger>(
     steps: &mut Steps<L>,
 ) -> Res<SearchResult>
     requires ordered { from ≤ to }
-    requires callable { AnswersBelow F.FnMut to (λ _ _. Unit {0}) find }
-    ensures ok { (f : ℕ → Ordering) → AnswersBelow F.FnMut to (λ k r. IfOk r (λ o. o ≡ f k)) find → Ascends f to → IfOk result (IsWhere f from to) }
+    requires callable { AnswersBelow F.FnMut to (λ _ _. Unit {0}) (rounds (to - from)) find }
+    ensures ok { (f : ℕ → Ordering) → AnswersBelow F.FnMut to (λ k r. IfOk r (λ o. o ≡ f k)) (rounds (to - from)) find → Ascends f to → IfOk result (IsWhere f from to) }
     ensures within { IfOk result (λ p. (from ≤ index_of p) × (index_of p ≤ to)) }
-    ensures err { IfErr result (RefusesBelow F.step to) }
+    ensures err { IfErr result (RefusesBelow F.FnMut to (rounds (to - from)) find) }
     ensures rise { steps.new ≤ steps.old + rounds (to - from) }
+    ensures least { IfOk result (λ _. steps.old + rounds (to - from) ≤ steps.new) }
     ensures kept { steps.old ≤ steps.new }
 {
     let mut size = to - from;
@@ -32,14 +48,12 @@ pub(crate) fn halve_by<F: FnMut(usize) -> Res<Ordering>, L: Ledger>(
     while size > 1 {
         let half = size / 2;
         let middle = base + half;
-        steps.tick();
-        if find(middle)? != Ordering::Greater {
+        if ask_by(&mut find, middle, steps)? != Ordering::Greater {
             base = middle;
         }
         size -= half;
     }
-    steps.tick();
-    Ok(match find(base)? {
+    Ok(match ask_by(&mut find, base, steps)? {
         Ordering::Equal => SearchResult::Found(base),
         Ordering::Less => SearchResult::NotFound(base + 1),
         Ordering::Greater => SearchResult::NotFound(base),
@@ -58,15 +72,16 @@ pub(crate) fn search_both_by<
     len: usize,
     steps: &mut Steps<L>,
 ) -> Res<SearchResult>
-    requires find { AnswersBelow F.FnMut len (λ _ _. Unit {0}) find }
-    requires side_find { AnswersBelow N.FnMut len (λ _ _. Unit {0}) side_find }
+    requires find { AnswersBelow F.FnMut len (λ _ _. Unit {0}) (rounds len) find }
+    requires side_find { AnswersBelow N.FnMut len (λ _ _. Unit {0}) (rounds len) side_find }
     ensures ok { (f s : ℕ → Ordering) (border : ℕ)
-        → AnswersBelow F.FnMut len (λ k r. IfOk r (λ o. o ≡ f k)) find
-        → AnswersBelow N.FnMut len (λ k r. IfOk r (λ o. o ≡ s k)) side_find
+        → AnswersBelow F.FnMut len (λ k r. IfOk r (λ o. o ≡ f k)) (rounds len) find
+        → AnswersBelow N.FnMut len (λ k r. IfOk r (λ o. o ≡ s k)) (rounds len) side_find
         → Ascends f len → IsBorder s len border → EdgeOf side f len border
         → IfOk result (IsPlaceBy f len border) }
-    ensures err { IfErr result (λ e. RefusesBelow F.step len e ⊎ RefusesBelow N.step len e) }
+    ensures err { IfErr result (λ e. RefusesBelow F.FnMut len (rounds len) find e ⊎ RefusesBelow N.FnMut len (rounds len) side_find e) }
     ensures rise { steps.new ≤ steps.old + search_bound len }
+    ensures least { IfOk result (λ _. steps.old + rounds len ≤ steps.new) }
     ensures kept { steps.old ≤ steps.new }
 {
     let found = match halve_by(find, 0, len, steps)? {

@@ -52,6 +52,27 @@ pub fn gallop_lower_bound<S: IndexOrd<V>, V, L: Ledger>(
     ensures same_cost { S.cmp_cost seq.new ≡ S.cmp_cost seq.old }
     ensures same_memory { S.takes_memory seq.new ≡ S.takes_memory seq.old }
 {
+    gallop_from(seq, start, needle, steps)
+}
+
+/// Asks at growing distances from `start`, and then between the last two.
+fn gallop_from<S: IndexOrd<V>, V, L: Ledger>(
+    seq: &mut S,
+    start: usize,
+    needle: &V,
+    steps: &mut Steps<L>,
+) -> Res<usize>
+    requires inside { start ≤ length (S.sequence seq.old) }
+    requires sorted { IsNonDecreasingBy (λ x. ordering_index (S.stands x needle.now)) (S.sequence seq.old) }
+    ensures ok { IfOk result (IsFirstFrom (standing S.stands (S.sequence seq.old) needle.now) start (length (S.sequence seq.old))) }
+    ensures err { IfErr result (MemoryCause (S.takes_memory seq.old)) }
+    ensures rise { IfOk result (λ i. steps.new ≤ steps.old + (2 * log_up (i - start + 1) + 1) * S.cmp_cost seq.old) }
+    ensures most { steps.new ≤ steps.old + (2 * log_up (length (S.sequence seq.old) - start + 1) + 1) * S.cmp_cost seq.old }
+    ensures kept { steps.old ≤ steps.new }
+    ensures same { S.sequence seq.new ≡ S.sequence seq.old }
+    ensures same_cost { S.cmp_cost seq.new ≡ S.cmp_cost seq.old }
+    ensures same_memory { S.takes_memory seq.new ≡ S.takes_memory seq.old }
+{
     let len = seq.index_len();
     let mut low = start;
     let mut stride = 0;

@@ -70,7 +70,15 @@ impl<'a, T: NativeInt> RowReader for SliceReader<'a, T> {
         self.values.len()
     }
 
-    fn int_at<L: Ledger>(&mut self, i: usize, steps: &mut Steps<L>) -> Res<Option<i128>> {
+    fn int_at<L: Ledger>(&mut self, i: usize, steps: &mut Steps<L>) -> Res<Option<i128>>
+        requires { i < length (map (λ x. Some (T.value x)) self.old) }
+        ensures ok { IfOk result (λ x. slice_get (map (λ x. Some (T.value x)) self.old) i ≡ Some x) }
+        ensures err { IfErr result (MemoryCause false) }
+        ensures cost { steps.new ≡ steps.old + 1 }
+        ensures rise { steps.new ≤ steps.old + 1 }
+        ensures kept { steps.old ≤ steps.new }
+        ensures same { self.new ≡ self.old }
+    {
         steps.tick();
         let values = self.values;
         Ok(Some(values[i].wide()))
@@ -121,7 +129,15 @@ impl<'a> RowReader for FlatReader<'a> {
         self.column.len()
     }
 
-    fn int_at<L: Ledger>(&mut self, i: usize, steps: &mut Steps<L>) -> Res<Option<i128>> {
+    fn int_at<L: Ledger>(&mut self, i: usize, steps: &mut Steps<L>) -> Res<Option<i128>>
+        requires { i < length (map row_int self.old.rows) }
+        ensures ok { IfOk result (λ x. slice_get (map row_int self.old.rows) i ≡ Some x) }
+        ensures err { IfErr result (MemoryCause false) }
+        ensures cost { steps.new ≡ steps.old + 1 }
+        ensures rise { steps.new ≤ steps.old + 1 }
+        ensures kept { steps.old ≤ steps.new }
+        ensures same { self.new ≡ self.old }
+    {
         Ok(self.column.int_at(i, steps))
     }
 }

@@ -1,5 +1,5 @@
 //! Searches by halving.
-ghost use Rattle.std.specs.Prelude.{◌≡◌, ℕ, ◌+◌, ◌-◌, ◌*◌, ◌<◌, ◌≤◌, ◌⊎◌, length, IfOk, IfErr, Err};
+ghost use Rattle.std.specs.Prelude.{◌≡◌, ℕ, ◌+◌, ◌-◌, ◌*◌, ◌<◌, ◌≤◌, ◌⊎◌, length, IfOk, IfErr};
 ghost use Rattle.std.specs.List.Sorted.{IsNonDecreasingBy};
 ghost use Rattle.std.specs.Ordering.{ordering_index};
 ghost use Rattle.vx_search.specs.Answers.{MemoryCause, standing};
@@ -50,16 +50,17 @@ pub trait SearchSorted<T>: IndexOrd<T> + Sized {
         side: SearchSortedSide,
         steps: &mut Steps<L>,
     ) -> Res<SearchResult>
-        requires find { AnswersBelow F.FnMut (length (Self.sequence self.old)) (λ _ _. Unit {0}) find }
-        requires side_find { AnswersBelow N.FnMut (length (Self.sequence self.old)) (λ _ _. Unit {0}) side_find }
+        requires find { let len = length (Self.sequence self.old) in AnswersBelow F.FnMut len (λ _ _. Unit {0}) (rounds len) find }
+        requires side_find { let len = length (Self.sequence self.old) in AnswersBelow N.FnMut len (λ _ _. Unit {0}) (rounds len) side_find }
         ensures ok { let len = length (Self.sequence self.old) in (f s : ℕ → Ordering) (border : ℕ)
-            → AnswersBelow F.FnMut len (λ k r. IfOk r (λ o. o ≡ f k)) find
-            → AnswersBelow N.FnMut len (λ k r. IfOk r (λ o. o ≡ s k)) side_find
+            → AnswersBelow F.FnMut len (λ k r. IfOk r (λ o. o ≡ f k)) (rounds len) find
+            → AnswersBelow N.FnMut len (λ k r. IfOk r (λ o. o ≡ s k)) (rounds len) side_find
             → Ascends f len → IsBorder s len border → EdgeOf side f len border
             → IfOk result (IsPlaceBy f len border) }
         ensures err { let len = length (Self.sequence self.old) in
-            IfErr result (λ e. RefusesBelow F.step len e ⊎ RefusesBelow N.step len e) }
+            IfErr result (λ e. RefusesBelow F.FnMut len (rounds len) find e ⊎ RefusesBelow N.FnMut len (rounds len) side_find e) }
         ensures rise { steps.new ≤ steps.old + search_bound (length (Self.sequence self.old)) }
+        ensures least { IfOk result (λ _. steps.old + rounds (length (Self.sequence self.old)) ≤ steps.new) }
         ensures kept { steps.old ≤ steps.new }
         ensures same { Self.sequence self.new ≡ Self.sequence self.old }
         ensures same_cost { Self.cmp_cost self.new ≡ Self.cmp_cost self.old }

@@ -30,7 +30,8 @@ impl<'a, T: Ord> SortedSlice<'a, T> {
 }
 
 impl<'a, T: Ord> IndexOrd<T> for SortedSlice<'a, T> {
-    ghost use Rattle.std.specs.Prelude.{false};
+    ghost use Rattle.std.specs.Prelude.{◌+◌, ◌<◌, ◌≤◌, false, length, slice_get, IfOk, IfErr};
+    ghost use Rattle.vx_search.specs.Answers.{MemoryCause, standing};
 
     ghost Element = { T };
 
@@ -51,7 +52,15 @@ impl<'a, T: Ord> IndexOrd<T> for SortedSlice<'a, T> {
         idx: usize,
         elem: &T,
         steps: &mut Steps<L>,
-    ) -> Res<Option<Ordering>> {
+    ) -> Res<Option<Ordering>>
+        requires { idx < length self.old }
+        ensures ok { IfOk result (λ o. o ≡ slice_get (standing T.cmp self.old elem.now) idx) }
+        ensures err { IfErr result (MemoryCause false) }
+        ensures cost { steps.new ≡ steps.old + 1 }
+        ensures rise { steps.new ≤ steps.old + 1 }
+        ensures kept { steps.old ≤ steps.new }
+        ensures same { self.new ≡ self.old }
+    {
         steps.tick();
         let values = self.values;
         Ok(Some(values[idx].cmp(elem)))

@@ -1,8 +1,110 @@
 //! The first fault of parts, for each rule one that breaks it first.
+//!
+//! A line of a table is a rule and the fields of a part in the order of its form. Flat rows are their type and their
+//! rows, as `u32:[1,2]`.
 use crate::jobs::reply_to_text;
 use std::alloc::{AllocError, Global};
 use std::test::Fail;
 use vx_tool::Status;
+
+/// The greatest length.
+const LONG: &str = "{\"constant\":\"i32\",\"row\":1,\"len\":18446744073709551615}";
+
+/// Base, offset, indices, values, chunk offsets.
+const RULES_OF_EXCEPTIONS: &str = "\
+TooLong long 1 u32:[1] i32:[9] null
+NoExceptions i32:[1,2,3] 0 u32:[] i32:[9] null
+IndexType i32:[1,2,3] 0 i32:[1] i32:[9] null
+IndexOrder i32:[1,2,3] 0 u32:[1,1] i32:[9] null
+IndexBelowOffset i32:[1,2,3] 2 u32:[1] i32:[9] null
+IndexPastEnd i32:[1,2,3] 0 u32:[3] i32:[9] null
+ValueCount i32:[1,2,3] 0 u32:[1] u8:[9,9] null
+ValueType i32:[1,2,3] 0 u32:[1] u8?:[9] null
+ValueNullable i32:[1,2,3] 0 u32:[1] i32?:[9] i32:[]
+ChunkOffsetType i32:[1,2,3] 0 u32:[1] i32:[9] i32:[]
+ChunkOffsetCount i32:[1,2,3] 0 u32:[1] i32:[9] u32:[1,1]
+ChunkOffsetWrong i32:[1,2,3] 0 u32:[1] i32:[9] u32:[1]";
+
+/// Inner part, number of lanes, offset, lane offsets, indices, values.
+const RULES_OF_LANE_OFFSETS: &str = "\
+TooLong long 3 1 u32:[] u16:[2] i32:[9]
+LaneCount i32:[1,2,3] 3 1024 u32:[0,1] u16:[2] i32:[9]
+LaneCount i32:[1,2,3] 0 0 u32:[0] u16:[2] i32:[9]
+LaneOffset i32:[1,2,3] 1 1024 u64:[0,1] u16:[2] i32:[9]
+LaneOffsetsType i32:[1,2,3] 1 0 u64:[] u16:[2] i32:[9]
+LaneOffsetsLength i32:[1,2,3] 1 0 u32:[1,0,0] u16:[2] i32:[9]
+LaneOffsetsFall i32:[1,2,3] 1 0 u32:[9,2] u16:[2] i32:[9]
+LaneOffsetsEnd i32:[1,2,3] 1 0 u32:[0,2] u16:[2] i32:[9]";
+
+/// The same.
+const RULES_OF_LANE_EXCEPTIONS: &str = "\
+LaneIndexType i32:[1,2,3] 1 0 u32:[0,1] u32:[2] i32:[9,9]
+LaneLengths i32:[1,2,3] 1 0 u32:[0,1] u16:[1024] i32:[9,9]
+LaneIndexRange i32:[1,2,3] 2 0 u32:[0,1,1] u16:[1025] i32:[9]
+LaneIndexLane i32:[1,2,3] 2 0 u32:[0,1,1] u16:[1] i32:[9]
+LaneIndexOrder i32:[1,2,3] 1 0 u32:[0,2] u16:[2,2] u8:[9,9]
+LaneValueType i32:[1,2,3] 1 0 u32:[0,1] u16:[2] u8?:[null]
+LaneValueNull i32:[1,2,3] 1 0 u32:[0,1] u16:[2] i32?:[null]";
+
+/// The second value, or none, beside the first of 10 and 20; array numbers, row numbers.
+const RULES_OF_WOVEN_PARTS: &str = "\
+TooFewValues null i8:[0] u8:[0,1]
+ValueTypes u8:[7] i8:[0] u8:[0,1]
+SelectorType i32?:[7] u8:[9] u8?:[0,1]
+SelectorLengths i32?:[7] u8:[9] u8:[0,1]
+SelectorArray i32?:[7] u8:[1,2] u8:[9,0]
+SelectorRow i32?:[7] u8:[0,1] u8:[1,1]";
+
+/// The part that a word of a line says.
+fn part_of(alloc: Global, word: Option<&str>) -> Result<String, AllocError> {
+    let word = word.unwrap_or("null");
+    match word.split_once(':') {
+        Some((dtype, rows)) => { format!(in alloc; "{{\"flat\":\"{dtype}\",\"rows\":{rows}}}") }
+        None if word == "long" => format!(in alloc; "{LONG}"),
+        None => format!(in alloc; "{word}"),
+    }
+}
+
+/// Exceptions over a base.
+fn excepted(alloc: Global, line: &str) -> Result<String, AllocError> {
+    let mut words = line.split(' ').skip(1);
+    let base = part_of(alloc, words.next())?;
+    let offset = part_of(alloc, words.next())?;
+    let indices = part_of(alloc, words.next())?;
+    let values = part_of(alloc, words.next())?;
+    let chunk_offsets = part_of(alloc, words.next())?;
+    format!(in alloc;
+        "{{\"excepted\":{base},\"offset\":{offset},\"indices\":{indices},\"values\":{values},\"chunk_offsets\":{chunk_offsets}}}"
+    )
+}
+
+/// Lanes over an inner part.
+fn lanes(alloc: Global, line: &str) -> Result<String, AllocError> {
+    let mut words = line.split(' ').skip(1);
+    let inner = part_of(alloc, words.next())?;
+    let n_lanes = part_of(alloc, words.next())?;
+    let offset = part_of(alloc, words.next())?;
+    let lane_offsets = part_of(alloc, words.next())?;
+    let indices = part_of(alloc, words.next())?;
+    let values = part_of(alloc, words.next())?;
+    format!(in alloc;
+        "{{\"lanes\":{inner},\"n_lanes\":{n_lanes},\"offset\":{offset},\"lane_offsets\":{lane_offsets},\"indices\":{indices},\"values\":{values}}}"
+    )
+}
+
+/// A part woven of one value or two.
+fn woven(alloc: Global, line: &str) -> Result<String, AllocError> {
+    let mut words = line.split(' ').skip(1);
+    let first = part_of(alloc, Some("i32:[10,20]"))?;
+    let second = part_of(alloc, words.next())?;
+    let comma = if second.as_str() == "null" { "" } else { "," };
+    let second = second.as_str().trim_start_matches("null");
+    let array_indices = part_of(alloc, words.next())?;
+    let row_indices = part_of(alloc, words.next())?;
+    format!(in alloc;
+        "{{\"interleaved\":[{first}{comma}{second}],\"array_indices\":{array_indices},\"row_indices\":{row_indices}}}"
+    )
+}
 
 /// What a job of this part alone is told.
 fn told(rt: &HostRuntime, part: &str) -> Result<(Status, Vec<u8>), AllocError> {
@@ -10,281 +112,57 @@ fn told(rt: &HostRuntime, part: &str) -> Result<(Status, Vec<u8>), AllocError> {
     reply_to_text(rt, job.as_str())
 }
 
-/// The refusal that names a rule that part 0 breaks.
-fn broken(alloc: Global, rule: &str) -> Result<String, AllocError> {
-    format!(in alloc; "{{\"at\":[0],\"error\":\"Malformed\",\"rule\":\"{rule}\"}}\n")
+/// Whether a job of this part alone is refused by this line.
+fn is_refused(rt: &HostRuntime, part: &str, refusal: &str) -> Result<bool, AllocError> {
+    let (status, written) = told(rt, part)?;
+    Ok(status == Status::Refused && written.as_slice() == refusal.as_bytes())
 }
 
-const UNSUPPORTED: &str = "{\"at\":[0],\"error\":\"Unsupported\"}\n";
-
-const INTS: &str = "{\"flat\":\"i32\",\"rows\":[1,2,3]}";
-
-const LONG: &str = "{\"constant\":\"i32\",\"row\":1,\"len\":18446744073709551615}";
-
-const TEXTS: &str = "{\"flat\":\"utf8\",\"rows\":[\"a\",\"b\",\"c\"]}";
-
-/// Exceptions over a base.
-fn excepted(
-    alloc: Global,
-    base: &str,
-    offset: usize,
-    indices: &str,
-    values: &str,
-    chunk_offsets: &str,
-) -> Result<String, AllocError> {
-    format!(in alloc;
-        "{{\"excepted\":{base},\"offset\":{offset},\"indices\":{{\"flat\":{indices}}},\"values\":{{\"flat\":{values}}},\"chunk_offsets\":{chunk_offsets}}}"
-    )
+/// Whether the first rule that the part breaks is the first word of the line.
+fn breaks(rt: &HostRuntime, line: &str, part: &str) -> Result<bool, AllocError> {
+    let rule = line.split(' ').next().unwrap_or("");
+    let refusal = format!(in rt.alloc();
+        "{{\"at\":[0],\"error\":\"Malformed\",\"rule\":\"{rule}\"}}\n"
+    )?;
+    is_refused(rt, part, refusal.as_str())
 }
 
 #[test]
 fn rules_of_exceptions(rt: HostRuntime) -> Result<(), Fail> {
-    let one = "\"u32\",\"rows\":[1]";
-    let nine = "\"i32\",\"rows\":[9]";
-    let table = [
-        ("TooLong", LONG, 1, one, nine, "null"),
-        ("NoExceptions", INTS, 0, "\"u32\",\"rows\":[]", nine, "null"),
-        ("IndexType", INTS, 0, "\"i32\",\"rows\":[1]", nine, "null"),
-        (
-            "IndexOrder",
-            INTS,
-            0,
-            "\"u32\",\"rows\":[1,1]",
-            nine,
-            "null",
-        ),
-        ("IndexBelowOffset", INTS, 2, one, nine, "null"),
-        (
-            "IndexPastEnd",
-            INTS,
-            0,
-            "\"u32\",\"rows\":[3]",
-            nine,
-            "null",
-        ),
-        ("ValueCount", INTS, 0, one, "\"u8\",\"rows\":[9,9]", "null"),
-        ("ValueType", INTS, 0, one, "\"u8?\",\"rows\":[9]", "null"),
-        (
-            "ValueNullable",
-            INTS,
-            0,
-            one,
-            "\"i32?\",\"rows\":[9]",
-            "{\"flat\":\"i32\",\"rows\":[]}",
-        ),
-        (
-            "ChunkOffsetType",
-            INTS,
-            0,
-            one,
-            nine,
-            "{\"flat\":\"i32\",\"rows\":[]}",
-        ),
-        (
-            "ChunkOffsetCount",
-            INTS,
-            0,
-            one,
-            nine,
-            "{\"flat\":\"u32\",\"rows\":[1,1]}",
-        ),
-        (
-            "ChunkOffsetWrong",
-            INTS,
-            0,
-            one,
-            nine,
-            "{\"flat\":\"u32\",\"rows\":[1]}",
-        ),
-    ];
-    for (rule, base, offset, indices, values, chunk_offsets) in table {
-        let part = excepted(rt.alloc(), base, offset, indices, values, chunk_offsets)?;
-        let want = broken(rt.alloc(), rule)?;
-        let (status, written) = told(&rt, part.as_str())?;
-        assert_eq!(rt; status, Status::Refused, "at {rule}");
-        assert_eq!(rt; written.as_slice(), want.as_bytes(), "at {rule}");
+    assert_eq!(rt; RULES_OF_EXCEPTIONS.lines().count(), 12);
+    for line in RULES_OF_EXCEPTIONS.lines() {
+        let part = excepted(rt.alloc(), line)?;
+        assert!(rt; breaks(&rt, line, part.as_str())?, "at {line}");
     }
     Ok(())
 }
 
-/// Lanes over an inner part.
-fn lanes(
-    alloc: Global,
-    inner: &str,
-    numbers: (usize, usize),
-    lane_offsets: &str,
-    indices: &str,
-    values: &str,
-) -> Result<String, AllocError> {
-    let (n_lanes, offset) = numbers;
-    format!(in alloc;
-        "{{\"lanes\":{inner},\"n_lanes\":{n_lanes},\"offset\":{offset},\"lane_offsets\":{{\"flat\":{lane_offsets}}},\"indices\":{{\"flat\":{indices}}},\"values\":{{\"flat\":{values}}}}}"
-    )
-}
-
 #[test]
 fn rules_of_lane_offsets(rt: HostRuntime) -> Result<(), Fail> {
-    let two = "\"u16\",\"rows\":[2]";
-    let nine = "\"i32\",\"rows\":[9]";
-    let table = [
-        ("TooLong", LONG, (3, 1), "\"u32\",\"rows\":[]", two, nine),
-        (
-            "LaneCount",
-            INTS,
-            (3, 1024),
-            "\"u32\",\"rows\":[0,1]",
-            two,
-            nine,
-        ),
-        ("LaneCount", INTS, (0, 0), "\"u32\",\"rows\":[0]", two, nine),
-        (
-            "LaneOffset",
-            INTS,
-            (1, 1024),
-            "\"u64\",\"rows\":[0,1]",
-            two,
-            nine,
-        ),
-        (
-            "LaneOffsetsType",
-            INTS,
-            (1, 0),
-            "\"u64\",\"rows\":[]",
-            two,
-            nine,
-        ),
-        (
-            "LaneOffsetsLength",
-            INTS,
-            (1, 0),
-            "\"u32\",\"rows\":[1,0,0]",
-            two,
-            nine,
-        ),
-        (
-            "LaneOffsetsFall",
-            INTS,
-            (1, 0),
-            "\"u32\",\"rows\":[9,2]",
-            two,
-            nine,
-        ),
-        (
-            "LaneOffsetsEnd",
-            INTS,
-            (1, 0),
-            "\"u32\",\"rows\":[0,2]",
-            two,
-            nine,
-        ),
-    ];
-    for (rule, inner, numbers, lane_offsets, indices, values) in table {
-        let part = lanes(rt.alloc(), inner, numbers, lane_offsets, indices, values)?;
-        let want = broken(rt.alloc(), rule)?;
-        let (status, written) = told(&rt, part.as_str())?;
-        assert_eq!(rt; status, Status::Refused, "at {rule}");
-        assert_eq!(rt; written.as_slice(), want.as_bytes(), "at {rule}");
+    assert_eq!(rt; RULES_OF_LANE_OFFSETS.lines().count(), 8);
+    for line in RULES_OF_LANE_OFFSETS.lines() {
+        let part = lanes(rt.alloc(), line)?;
+        assert!(rt; breaks(&rt, line, part.as_str())?, "at {line}");
     }
     Ok(())
 }
 
 #[test]
 fn rules_of_lane_exceptions(rt: HostRuntime) -> Result<(), Fail> {
-    let one = "\"u32\",\"rows\":[0,1]";
-    let both = "\"u32\",\"rows\":[0,2]";
-    let nine = "\"i32\",\"rows\":[9]";
-    let nines = "\"i32\",\"rows\":[9,9]";
-    let halves = "\"u32\",\"rows\":[0,1,1]";
-    let table = [
-        ("LaneIndexType", (1, 0), one, "\"u32\",\"rows\":[2]", nines),
-        ("LaneLengths", (1, 0), one, "\"u16\",\"rows\":[1024]", nines),
-        (
-            "LaneIndexRange",
-            (2, 0),
-            halves,
-            "\"u16\",\"rows\":[1025]",
-            nine,
-        ),
-        (
-            "LaneIndexLane",
-            (2, 0),
-            halves,
-            "\"u16\",\"rows\":[1]",
-            nine,
-        ),
-        (
-            "LaneIndexOrder",
-            (1, 0),
-            both,
-            "\"u16\",\"rows\":[2,2]",
-            "\"u8\",\"rows\":[9,9]",
-        ),
-        (
-            "LaneValueType",
-            (1, 0),
-            one,
-            "\"u16\",\"rows\":[2]",
-            "\"u8?\",\"rows\":[null]",
-        ),
-        (
-            "LaneValueNull",
-            (1, 0),
-            one,
-            "\"u16\",\"rows\":[2]",
-            "\"i32?\",\"rows\":[null]",
-        ),
-    ];
-    for (rule, numbers, lane_offsets, indices, values) in table {
-        let part = lanes(rt.alloc(), INTS, numbers, lane_offsets, indices, values)?;
-        let want = broken(rt.alloc(), rule)?;
-        let (status, written) = told(&rt, part.as_str())?;
-        assert_eq!(rt; status, Status::Refused, "at {rule}");
-        assert_eq!(rt; written.as_slice(), want.as_bytes(), "at {rule}");
+    assert_eq!(rt; RULES_OF_LANE_EXCEPTIONS.lines().count(), 7);
+    for line in RULES_OF_LANE_EXCEPTIONS.lines() {
+        let part = lanes(rt.alloc(), line)?;
+        assert!(rt; breaks(&rt, line, part.as_str())?, "at {line}");
     }
     Ok(())
 }
 
-/// A part woven of these values.
-fn woven(
-    alloc: Global,
-    values: &str,
-    array_indices: &str,
-    row_indices: &str,
-) -> Result<String, AllocError> {
-    format!(in alloc;
-        "{{\"interleaved\":[{values}],\"array_indices\":{{\"flat\":{array_indices}}},\"row_indices\":{{\"flat\":{row_indices}}}}}"
-    )
-}
-
 #[test]
 fn rules_of_woven_parts(rt: HostRuntime) -> Result<(), Fail> {
-    let ints = "{\"flat\":\"i32\",\"rows\":[10,20]},{\"flat\":\"i32?\",\"rows\":[7]}";
-    let mixed = "{\"flat\":\"i32\",\"rows\":[10,20]},{\"flat\":\"u8\",\"rows\":[7]}";
-    let front = "\"u8\",\"rows\":[0,1]";
-    let table = [
-        ("TooFewValues", INTS, "\"i8\",\"rows\":[0]", front),
-        ("ValueTypes", mixed, "\"i8\",\"rows\":[0]", front),
-        (
-            "SelectorType",
-            ints,
-            "\"u8\",\"rows\":[9]",
-            "\"u8?\",\"rows\":[0,1]",
-        ),
-        ("SelectorLengths", ints, "\"u8\",\"rows\":[9]", front),
-        (
-            "SelectorArray",
-            ints,
-            "\"u8\",\"rows\":[1,2]",
-            "\"u8\",\"rows\":[9,0]",
-        ),
-        ("SelectorRow", ints, front, "\"u8\",\"rows\":[1,1]"),
-    ];
-    for (rule, values, array_indices, row_indices) in table {
-        let part = woven(rt.alloc(), values, array_indices, row_indices)?;
-        let want = broken(rt.alloc(), rule)?;
-        let (status, written) = told(&rt, part.as_str())?;
-        assert_eq!(rt; status, Status::Refused, "at {rule}");
-        assert_eq!(rt; written.as_slice(), want.as_bytes(), "at {rule}");
+    assert_eq!(rt; RULES_OF_WOVEN_PARTS.lines().count(), 6);
+    for line in RULES_OF_WOVEN_PARTS.lines() {
+        let part = woven(rt.alloc(), line)?;
+        assert!(rt; breaks(&rt, line, part.as_str())?, "at {line}");
     }
     Ok(())
 }
@@ -292,47 +170,43 @@ fn rules_of_woven_parts(rt: HostRuntime) -> Result<(), Fail> {
 #[test]
 fn types_that_are_not_supported(rt: HostRuntime) -> Result<(), Fail> {
     let alloc = rt.alloc();
-    let none = "\"u8\",\"rows\":[]";
-    let bools = "{\"flat\":\"bool\",\"rows\":[true]}";
-    let both = format!(in alloc; "{TEXTS},{TEXTS}")?;
+    let texts = part_of(alloc, Some("utf8:[\"a\"]"))?;
     let table = [
-        excepted(alloc, TEXTS, 0, none, none, "null")?,
-        lanes(alloc, bools, (3, 0), none, none, none)?,
-        woven(alloc, both.as_str(), none, none)?,
-        woven(alloc, TEXTS, none, none)?,
+        excepted(alloc, "Unsupported utf8:[\"a\"] 0 u8:[] u8:[] null")?,
+        lanes(alloc, "Unsupported bool:[true] 3 0 u8:[] u8:[] u8:[]")?,
+        lanes(
+            alloc,
+            "Unsupported binary:[\"\"] 1 0 u32:[0,0] u16:[] i32:[]",
+        )?,
+        woven(alloc, "Unsupported utf8:[\"a\"] u8:[] u8:[]")?,
+        format!(in alloc;
+            "{{\"interleaved\":[{texts},{texts}],\"array_indices\":{texts},\"row_indices\":{texts}}}"
+        )?,
     ];
     for part in table {
-        let (status, written) = told(&rt, part.as_str())?;
-        assert_eq!(rt; status, Status::Refused, "at {part}");
-        assert_eq!(rt; written.as_slice(), UNSUPPORTED.as_bytes(), "at {part}");
+        let refusal = "{\"at\":[0],\"error\":\"Unsupported\"}\n";
+        assert!(rt; is_refused(&rt, part.as_str(), refusal)?, "at {part}");
     }
     Ok(())
+}
+
+/// Exceptions over this base and of these values.
+fn nested(alloc: Global, base: &str, values: &str) -> Result<String, AllocError> {
+    format!(in alloc;
+        "{{\"excepted\":{base},\"offset\":0,\"indices\":{{\"flat\":\"i8\",\"rows\":[]}},\"values\":{values},\"chunk_offsets\":null}}"
+    )
 }
 
 #[test]
 fn faults_of_children_come_first(rt: HostRuntime) -> Result<(), Fail> {
     let alloc = rt.alloc();
-    let nine = "\"i32\",\"rows\":[9]";
-    let one = "\"u16\",\"rows\":[1]";
-    let bad = lanes(alloc, INTS, (3, 0), one, one, nine)?;
-    let base = excepted(alloc, bad.as_str(), 0, nine, nine, "null")?;
-    let values = format!(in alloc;
-        "{{\"excepted\":{TEXTS},\"offset\":0,\"indices\":{{\"flat\":{one}}},\"values\":{bad},\"chunk_offsets\":null}}"
-    )?;
-    let table = [
-        (
-            base,
-            "{\"at\":[0,0],\"error\":\"Malformed\",\"rule\":\"LaneCount\"}\n",
-        ),
-        (
-            values,
-            "{\"at\":[0,1],\"error\":\"Malformed\",\"rule\":\"LaneCount\"}\n",
-        ),
-    ];
-    for (part, want) in table {
-        let (status, written) = told(&rt, part.as_str())?;
-        assert_eq!(rt; status, Status::Refused, "at {part}");
-        assert_eq!(rt; written.as_slice(), want.as_bytes(), "at {part}");
-    }
+    let lane_count = lanes(alloc, "LaneCount i32:[1] 3 0 u32:[] u16:[] i32:[]")?;
+    let texts = part_of(alloc, Some("utf8:[\"a\"]"))?;
+    let base = nested(alloc, lane_count.as_str(), texts.as_str())?;
+    let refusal = "{\"at\":[0,0],\"error\":\"Malformed\",\"rule\":\"LaneCount\"}\n";
+    assert!(rt; is_refused(&rt, base.as_str(), refusal)?);
+    let values = nested(alloc, texts.as_str(), lane_count.as_str())?;
+    let refusal = "{\"at\":[0,1],\"error\":\"Malformed\",\"rule\":\"LaneCount\"}\n";
+    assert!(rt; is_refused(&rt, values.as_str(), refusal)?);
     Ok(())
 }

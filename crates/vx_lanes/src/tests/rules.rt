@@ -123,6 +123,21 @@ fn refuses_an_index_past_the_chunk(rt: HostRuntime) -> Result<(), Fail> {
 }
 
 #[test]
+fn refuses_a_later_index_past_the_chunk_before_an_index_twice(rt: HostRuntime) -> Result<(), Fail> {
+    let mut steps = Steps::new(&rt, NoLedger::new());
+    let rule = refused(
+        rt.alloc(),
+        (3, 2, 0),
+        &[0, 2, 3],
+        &[2, 2, 1025],
+        &[7, 7, 7],
+        &mut steps,
+    )?;
+    assert_eq!(rt; rule, Some(Rule::LaneIndexRange));
+    Ok(())
+}
+
+#[test]
 fn refuses_an_index_of_another_lane(rt: HostRuntime) -> Result<(), Fail> {
     let mut steps = Steps::new(&rt, NoLedger::new());
     let rule = refused(

@@ -9,16 +9,13 @@ fn hash_of(data: &PatchedData) -> u64 {
     state.finish()
 }
 
-fn data(offset: usize) -> PatchedData {
-    PatchedData {
-        n_lanes: 32,
-        offset,
-    }
+fn data(n_lanes: usize, offset: usize) -> PatchedData {
+    PatchedData { n_lanes, offset }
 }
 
 #[test]
 fn prints(rt: HostRuntime) -> Result<(), Fail> {
-    let data = data(5);
+    let data = data(32, 5);
     let text = format!(in rt.alloc(); "{data}")?;
     assert_eq!(rt; text.as_str(), "n_lanes: 32, offset: 5");
     Ok(())
@@ -26,9 +23,10 @@ fn prints(rt: HostRuntime) -> Result<(), Fail> {
 
 #[test]
 fn compares_both_fields(rt: HostRuntime) -> Result<(), Fail> {
-    let same = data(5).clone()?;
-    assert!(rt; same == data(5) && same != data(6));
-    assert_eq!(rt; hash_of(&same), hash_of(&data(5)));
+    let same = data(32, 5).clone()?;
+    assert!(rt; same == data(32, 5));
+    assert!(rt; same != data(32, 6) && same != data(16, 5));
+    assert_eq!(rt; hash_of(&same), hash_of(&data(32, 5)));
     Ok(())
 }
 

@@ -1,48 +1,103 @@
 //! Slices by rows and by chunks.
-use super::{four_chunks, one_chunk};
+ghost use Rattle.std.specs.Prelude.{◌≡◌, ◌≤◌, IfOk};
+
+use super::{found_in, four_chunks, one_chunk};
 use std::test::Fail;
-use vx_base::{NoLedger, Steps};
+use vx_base::{NoLedger, Res, Steps};
+use vx_lanes::Lanes;
+
+/// Rows 1 to below 10 of the layout of one chunk.
+fn nine_rows(rt: &HostRuntime) -> Res<Lanes> {
+    let mut steps = Steps::new(rt, NoLedger::new());
+    let whole = one_chunk(rt.alloc(), &mut steps)?;
+    whole.slice(1..10)
+}
+
+fn found_in_nine_rows(rt: &HostRuntime) -> Res<Vec<(usize, usize)>> {
+    let part = nine_rows(rt)?;
+    found_in(rt, &part)
+}
 
 #[test]
 fn slices_rows(rt: HostRuntime) -> Result<(), Fail> {
-    let mut steps = Steps::new(&rt, NoLedger::new());
-    let part = one_chunk(rt.alloc(), &mut steps)?.slice(1..10)?;
-    for i in 0..part.len() {
-        let found = part.find(i, &mut steps);
-        assert_eq!(rt; found.is_some(), i == 0 || i == 7);
-    }
+    let found = found_in_nine_rows(&rt)?;
+    assert_eq!(rt; found.as_slice(), [(0, 0), (7, 1)].as_slice());
     Ok(())
+}
+
+/// The length, the offset and the number of lane offsets.
+fn shape_of_nine_rows(rt: &HostRuntime) -> Res<(usize, usize, usize)> {
+    let part = nine_rows(rt)?;
+    Ok((part.len(), part.offset(), part.lane_offsets().len()))
 }
 
 #[test]
 fn keeps_the_lanes_of_its_chunks(rt: HostRuntime) -> Result<(), Fail> {
-    let mut steps = Steps::new(&rt, NoLedger::new());
-    let part = one_chunk(rt.alloc(), &mut steps)?.slice(1..10)?;
-    let shape = (part.len(), part.offset(), part.lane_offsets().len());
-    assert_eq!(rt; shape, (9, 1, 33));
+    assert_eq!(rt; shape_of_nine_rows(&rt)?, (9, 1, 33));
     Ok(())
 }
 
-#[test]
+/// Rows 5 to below 2000 of the layout of four chunks.
 #[tactic(auto, unfolding(vx_lanes::specs::Layouts::layout_part))]
-fn slices_a_chunk_of_a_slice(rt: HostRuntime) -> Result<(), Fail> {
-    let mut steps = Steps::new(&rt, NoLedger::new());
-    let part = four_chunks(rt.alloc(), &mut steps)?.slice(1024..5000)?;
-    let (chunk, rows) = part.slice_chunks(0..1)?;
-    assert_eq!(rt; (rows.start, rows.end, chunk.len()), (0, 1024, 1024));
-    for i in 0..chunk.len() {
-        let found = chunk.find(i, &mut steps);
-        assert_eq!(rt; found, if i == 0 { Some(2) } else { None });
-    }
-    Ok(())
+fn from_the_fifth(rt: &HostRuntime) -> Res<Lanes>
+    ensures len { IfOk result (λ l. l.len ≡ 1995) }
+    ensures offset { IfOk result (λ l. l.offset ≡ 5) }
+{
+    let mut steps = Steps::new(rt, NoLedger::new());
+    let whole = four_chunks(rt.alloc(), &mut steps)?;
+    whole.slice(5..2000)
+}
+
+/// The offset of chunks `start` to below `end` of it, their length, and their first row and the one behind their last.
+fn chunks_from_the_fifth(
+    rt: &HostRuntime,
+    start: usize,
+    end: usize,
+) -> Res<(usize, usize, usize, usize)>
+    requires ordered { start ≤ end }
+    requires inside { end ≤ 2 }
+{
+    let part = from_the_fifth(rt)?;
+    let (chunks, rows) = part.slice_chunks(start..end)?;
+    Ok((chunks.offset(), chunks.len(), rows.start, rows.end))
 }
 
 #[test]
+fn slices_chunks_of_a_slice(rt: HostRuntime) -> Result<(), Fail> {
+    let first = chunks_from_the_fifth(&rt, 0, 1)?;
+    assert_eq!(rt;
+        first,
+        (5, 1019, 0, 1019),
+        "the first chunk keeps the offset"
+    );
+    let later = chunks_from_the_fifth(&rt, 1, 2)?;
+    assert_eq!(rt;
+        later,
+        (0, 976, 1019, 1995),
+        "a later one starts at its front"
+    );
+    assert_eq!(rt; chunks_from_the_fifth(&rt, 1, 1)?, (0, 0, 0, 0), "no chunk");
+    Ok(())
+}
+
+/// The second chunk of the layout of four.
 #[tactic(auto, unfolding(vx_lanes::specs::Layouts::layout_part))]
-fn slices_no_chunk(rt: HostRuntime) -> Result<(), Fail> {
-    let mut steps = Steps::new(&rt, NoLedger::new());
-    let part = four_chunks(rt.alloc(), &mut steps)?.slice(5..2000)?;
-    let (chunk, rows) = part.slice_chunks(1..1)?;
-    assert_eq!(rt; (chunk.offset(), chunk.len(), rows.end), (0, 0, 0));
+fn second_chunk(rt: &HostRuntime) -> Res<Lanes> {
+    let mut steps = Steps::new(rt, NoLedger::new());
+    let whole = four_chunks(rt.alloc(), &mut steps)?;
+    let part = whole.slice(1024..5000)?;
+    let (chunk, _rows) = part.slice_chunks(0..1)?;
+    Ok(chunk)
+}
+
+fn found_in_the_second_chunk(rt: &HostRuntime) -> Res<Vec<(usize, usize)>> {
+    let chunk = second_chunk(rt)?;
+    found_in(rt, &chunk)
+}
+
+#[test]
+fn keeps_the_exceptions_of_its_chunks(rt: HostRuntime) -> Result<(), Fail> {
+    let found = found_in_the_second_chunk(&rt)?;
+    assert_eq!(rt; found.as_slice(), [(0, 2)].as_slice());
     Ok(())
 }

@@ -55,6 +55,16 @@ fn nothing_counts_as_zero(rt: HostRuntime) -> Result<(), Fail> {
 }
 
 #[test]
+fn nothing_is_place_zero(rt: HostRuntime) -> Result<(), Fail> {
+    let mut steps = Steps::new(&rt, NoLedger::new());
+    let column = two_nothings(rt.alloc())?;
+    let seq = SearchSortedPrimitiveArray::<i32, _>::from_flat(&column).places();
+    let place = place_of(seq, &0usize, SearchSortedSide::Right, &mut steps)?;
+    assert_eq!(rt; place, SearchResult::Found(2));
+    Ok(())
+}
+
+#[test]
 fn reads_a_column(rt: HostRuntime) -> Result<(), Fail> {
     let mut steps = Steps::new(&rt, CountLedger::new());
     let column = two_nothings(rt.alloc())?;

@@ -6,7 +6,7 @@ use vx_base::{CountLedger, NoLedger, Steps};
 #[test]
 fn gallops_over_a_slice(rt: HostRuntime) -> Result<(), Fail> {
     let mut steps = Steps::new(&rt, CountLedger::new());
-    let values = [1u32, 3, 5, 7, 9, 11, 13, 15];
+    let values = [1i32, 3, 5, 7, 9, 11, 13, 15];
     let mut seq = SortedSlice::new(&values);
     let place = gallop_lower_bound(&mut seq, 1, &12, &mut steps)?;
     assert_eq!(rt; place, 6);

@@ -5,9 +5,9 @@ use Rattle.vx_lanes.proofs.lanes.Lanes.try_new.Goals as goal
 
 pub invariant_of-result : goal.invariant_of-result
 invariant_of-result g c =
-    let alike : AlikeTypes c.args.patch_values.dtype c.args.dtype.now =
+    let alike : AlikeTypes c.args.values.dtype c.args.dtype.now =
     subst (λ s. AlikeTypes s c.args.dtype.now) c.dtype.ensures.dtype (c.eq_ignore_nullability-alike.ensures.0 (alike_tells _ _ (sym c.in-None.ensures.first))) in
-    sound _ _ (alike_integer c.args.patch_values.dtype c.args.dtype.now alike c.requires) (sym c.in-None.ensures.first)
+    sound _ _ (alike_integer c.args.values.dtype c.args.dtype.now alike c.requires) (sym c.in-None.ensures.first)
 
 pub returns-in-None-clause-alike : goal.returns-in-None-clause-alike
 returns-in-None-clause-alike g c =
@@ -15,6 +15,6 @@ returns-in-None-clause-alike g c =
 
 pub returns-in-None-clause-sound : goal.returns-in-None-clause-sound
 returns-in-None-clause-sound g c =
-    let alike : AlikeTypes c.args.patch_values.dtype c.args.dtype.now =
+    let alike : AlikeTypes c.args.values.dtype c.args.dtype.now =
     subst (λ s. AlikeTypes s c.args.dtype.now) c.dtype.ensures.dtype (c.eq_ignore_nullability-alike.ensures.0 (alike_tells _ _ (sym c.in-None.ensures.first))) in
-    sound _ _ (alike_integer c.args.patch_values.dtype c.args.dtype.now alike c.requires) (sym c.in-None.ensures.first)
+    sound _ _ (alike_integer c.args.values.dtype c.args.dtype.now alike c.requires) (sym c.in-None.ensures.first)

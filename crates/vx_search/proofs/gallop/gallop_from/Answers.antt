@@ -7,7 +7,7 @@ use Rattle.vx_search.specs.Halving.{log_up, rounds, IsFirstFrom}
 use Rattle.vx_search.proofs.Powers.{IsGallop, gallop_next, gallop_rounds, gallop_rise, map_ok}
 use Rattle.std.proofs.Math.Nat.{mul-le-mul_right}
 use Rattle.vx_search.proofs.Counts.{ascends_standing, less_upto, told_lt}
-use Rattle.vx_search.proofs.gallop.gallop_lower_bound.Goals as goal
+use Rattle.vx_search.proofs.gallop.gallop_from.Goals as goal
 
 pub loop-stride-preserved : goal.loop-stride-preserved
 loop-stride-preserved g c =

@@ -4,7 +4,7 @@ use Rattle.std.specs.Ordering.{is_lt}
 use Rattle.vx_search.specs.Answers.{standing}
 use Rattle.vx_search.specs.Halving.{rounds}
 use Rattle.vx_search.proofs.Powers.{IsGallop}
-use Rattle.vx_search.proofs.gallop.gallop_lower_bound.Given as goal
+use Rattle.vx_search.proofs.gallop.gallop_from.Given as goal
 
 abbrev pub invariant-loop-stride : goal.invariant-loop-stride
 invariant-loop-stride g l = record {

@@ -1,0 +1,511 @@
+#!/usr/bin/env python3
+"""Compares replies of `vxcol` to random jobs with replies that this script works out by itself.
+
+    python3 tools/random_jobs.py [--seed N] [--jobs N] [--program PATH]
+
+Each job has up to three part trees, well formed or with one thing changed that may break a rule, and a plan of slices and
+reads; one in twenty is changed in its form, so that it is no job. The script knows the rules of parts, the first fault and the rows of a part from docs/FORMAT.md and docs/DEFINITIONS.md
+alone: a row is looked up by recursion, each rule is one line, and nothing is searched or shared. Where several errors are
+true of a step, each of them is right. The script prints each job whose reply is wrong, and how often each kind of reply was
+met; it ends with 1 where a reply was wrong. The same seed makes the same jobs.
+"""
+import argparse
+import collections
+import json
+import pathlib
+import random
+import subprocess
+import sys
+
+ROOT = pathlib.Path(__file__).resolve().parent.parent
+LAST = 2**64 - 1  # the greatest length
+CHUNK = 1024  # places in a chunk of exceptions
+
+INTEGERS = {f"{sign}{bits}": (0 if sign == "u" else -(2 ** (bits - 1)), 2 ** (bits - (sign == "i")) - 1)
+            for sign in "ui" for bits in (8, 16, 32, 64)}
+UNSIGNED = ("u8", "u16", "u32", "u64")
+
+
+# ---- types and rows, as JSON has them
+
+
+def kind(dtype):
+    """The type without its nullability."""
+    if isinstance(dtype, str):
+        return dtype.rstrip("?")
+    return "decimal", *dtype["decimal"]
+
+
+def nullable(dtype):
+    return dtype.endswith("?") if isinstance(dtype, str) else dtype["nullable"]
+
+
+def widened(dtype, wide=True):
+    """The type with nothings, or without."""
+    if isinstance(dtype, str):
+        return kind(dtype) + ("?" if wide else "")
+    return {**dtype, "nullable": wide}
+
+
+def printed(dtype, row):
+    """The row as a page has it: bytes are printed in lower case."""
+    return row.lower() if kind(dtype) == "binary" and row is not None else row
+
+
+def ceiling(a, b):
+    return -(-a // b)
+
+
+# ---- what a part means
+
+
+def children(part):
+    if "chunked" in part:
+        return part["chunks"]
+    if "lanes" in part:
+        return [part["lanes"]]
+    if "excepted" in part:
+        return [part["excepted"], part["values"]]
+    return part.get("interleaved", [])
+
+
+def dtype_of(part):
+    for key in ("flat", "constant", "chunked"):
+        if key in part:
+            return part[key]
+    if "interleaved" in part:
+        types = [dtype_of(value) for value in part["interleaved"]]
+        return widened(types[0]) if any(map(nullable, types)) else types[0]
+    return dtype_of(part["lanes"] if "lanes" in part else part["excepted"])
+
+
+def len_of(part):
+    if "flat" in part:
+        return len(part["rows"])
+    if "constant" in part:
+        return part["len"]
+    if "chunked" in part:
+        return sum(map(len_of, part["chunks"]))
+    if "interleaved" in part:
+        return len(part["array_indices"]["rows"])
+    return len_of(part["lanes"] if "lanes" in part else part["excepted"])
+
+
+def lane_row(part, i):
+    row = row_of(part["lanes"], i)
+    if row is None:
+        return None
+    chunk, place = divmod(part["offset"] + i, CHUNK)
+    offsets = part["lane_offsets"]["rows"]
+    for entry in range(chunk * part["n_lanes"], (chunk + 1) * part["n_lanes"]):
+        for k in range(offsets[entry], offsets[entry + 1]):
+            if part["indices"]["rows"][k] == place:
+                return row_of(part["values"], k)
+    return row
+
+
+def row_of(part, i):
+    if "flat" in part:
+        return printed(part["flat"], part["rows"][i])
+    if "constant" in part:
+        return printed(part["constant"], part["row"])
+    if "chunked" in part:
+        for chunk in part["chunks"]:
+            if i < len_of(chunk):
+                return row_of(chunk, i)
+            i -= len_of(chunk)
+    if "lanes" in part:
+        return lane_row(part, i)
+    if "excepted" in part:
+        indices = part["indices"]["rows"]
+        if part["offset"] + i in indices:
+            return row_of(part["values"], indices.index(part["offset"] + i))
+        return row_of(part["excepted"], i)
+    value = part["interleaved"][part["array_indices"]["rows"][i]]
+    return row_of(value, part["row_indices"]["rows"][i])
+
+
+# ---- the first fault of a part
+
+
+def is_unsigned(flat):
+    return flat["flat"] in UNSIGNED
+
+
+def rises(numbers, strictly):
+    return all(a < b or (not strictly and a == b) for a, b in zip(numbers, numbers[1:]))
+
+
+def lane_rules(part):
+    """Rules of lanes in their order, each with whether it is broken where none before it is."""
+    length = len_of(part["lanes"])
+    n_lanes, offset = part["n_lanes"], part["offset"]
+    offsets, indices, values = (part[key] for key in ("lane_offsets", "indices", "values"))
+    starts, places = offsets["rows"], indices["rows"]
+
+    def entries():
+        return [(g, places[starts[g]:starts[g + 1]]) for g in range(len(starts) - 1)]
+
+    yield "TooLong", lambda: offset + length > LAST
+    yield "LaneCount", lambda: n_lanes not in (1, 2, 4, 8, 16, 32, 64, 128)
+    yield "LaneOffset", lambda: offset >= CHUNK
+    yield "LaneOffsetsType", lambda: offsets["flat"] != "u32"
+    yield "LaneOffsetsLength", lambda: len(starts) != n_lanes * ceiling(offset + length, CHUNK) + 1
+    yield "LaneOffsetsFall", lambda: not rises(starts, False)
+    yield "LaneOffsetsEnd", lambda: starts[-1] > len(places)
+    yield "LaneIndexType", lambda: indices["flat"] != "u16"
+    yield "LaneLengths", lambda: len(places) != len(values["rows"])
+    yield "LaneIndexRange", lambda: any(i >= CHUNK for i in places[starts[0]:starts[-1]])
+    yield "LaneIndexLane", lambda: any(i % n_lanes != g % n_lanes for g, held in entries() for i in held)
+    yield "LaneIndexOrder", lambda: not all(rises(held, True) for _, held in entries())
+    yield "LaneValueType", lambda: kind(values["flat"]) != kind(dtype_of(part["lanes"]))
+    yield "LaneValueNull", lambda: None in values["rows"]
+
+
+def exception_rules(part):
+    base, values, chunk_offsets = part["excepted"], part["values"], part["chunk_offsets"]
+    length, offset, indices = len_of(base), part["offset"], part["indices"]
+    rows = indices["rows"]
+    yield "TooLong", lambda: offset + length > LAST
+    yield "NoExceptions", lambda: not rows
+    yield "IndexType", lambda: not is_unsigned(indices)
+    yield "IndexOrder", lambda: not rises(rows, True)
+    yield "IndexBelowOffset", lambda: rows[0] < offset
+    yield "IndexPastEnd", lambda: rows[-1] >= offset + length
+    yield "ValueCount", lambda: len_of(values) != len(rows)
+    yield "ValueType", lambda: kind(dtype_of(values)) != kind(dtype_of(base))
+    yield "ValueNullable", lambda: nullable(dtype_of(values)) and not nullable(dtype_of(base))
+    if chunk_offsets is None:
+        return
+    counts = [sum(i < CHUNK * (offset // CHUNK + c) for i in rows)
+              for c in range(min(ceiling(offset % CHUNK + length, CHUNK), len(chunk_offsets["rows"])))]
+    yield "ChunkOffsetType", lambda: not is_unsigned(chunk_offsets)
+    yield "ChunkOffsetCount", lambda: len(chunk_offsets["rows"]) != ceiling(offset % CHUNK + length, CHUNK)
+    yield "ChunkOffsetWrong", lambda: chunk_offsets["rows"] != counts
+
+
+def weaving_rules(part):
+    values, arrays, rows = part["interleaved"], part["array_indices"], part["row_indices"]
+    yield "TooFewValues", lambda: len(values) < 2
+    yield "ValueTypes", lambda: len({kind(dtype_of(value)) for value in values}) > 1
+    yield "SelectorType", lambda: not (is_unsigned(arrays) and is_unsigned(rows))
+    yield "SelectorLengths", lambda: len(arrays["rows"]) != len(rows["rows"])
+    yield "SelectorArray", lambda: any(a >= len(values) for a in arrays["rows"])
+    yield "SelectorRow", lambda: any(r >= len_of(values[a]) for a, r in zip(arrays["rows"], rows["rows"]))
+
+
+def chunk_rules(part):
+    yield "TooLong", lambda: len_of(part) > LAST
+    yield "ChunkType", lambda: any(dtype_of(chunk) != part["chunked"] for chunk in part["chunks"])
+
+
+def unsupported(part):
+    kinds = [kind(dtype_of(child)) for child in children(part)]
+    if "lanes" in part:
+        return kinds[0] not in INTEGERS
+    if "excepted" in part:
+        kinds = kinds[:1]
+    elif "interleaved" not in part:
+        return False
+    return any(name != "bool" and name not in INTEGERS for name in kinds)
+
+
+def first_fault(part):
+    """The path and the rule of the first fault, the rule being none for a type that isn't supported; else none."""
+    for number, child in enumerate(children(part)):
+        fault = first_fault(child)
+        if fault:
+            return [number, *fault[0]], fault[1]
+    if unsupported(part):
+        return [], None
+    rules = {"lanes": lane_rules, "excepted": exception_rules, "interleaved": weaving_rules, "chunked": chunk_rules}
+    for key, rules_of in rules.items():
+        if key in part:
+            return next((([], rule) for rule, broken in rules_of(part) if broken()), None)
+    return None
+
+
+# ---- the right replies to a job
+
+
+def refusal(error, **fields):
+    return {"error": error, **fields}
+
+
+def replies(job):
+    """All right replies."""
+    for number, part in enumerate(job["parts"]):
+        fault = first_fault(part)
+        if fault:
+            at = [number, *fault[0]]
+            return [refusal("Malformed", at=at, rule=fault[1]) if fault[1] else refusal("Unsupported", at=at)]
+    if not job["parts"]:
+        return [refusal("UnknownColumn", number=0)]
+    part = job["parts"][0]
+    start, end, answers = 0, len_of(part), []
+    for step in job["plan"]:
+        length = end - start
+        if "slice" in step:
+            s, e = step["slice"]
+            wrong = [refusal("BadRange", start=s, end=e)] if s > e else []
+            if e > length:
+                wrong.append(refusal("OutOfBounds", index=e, len=length))
+            start, end = start + s, start + e
+        else:
+            wrong = [refusal("OutOfBounds", index=i, len=length) for i in step["points"] if i >= length]
+            if not wrong:
+                answers.append({"rows": [row_of(part, start + i) for i in step["points"]]})
+        if wrong:
+            return wrong
+    rows = [row_of(part, i) for i in range(start, end)]
+    return [{"answers": answers, "rows": rows, "type": dtype_of(part)}]
+
+
+# ---- random jobs
+
+
+def random_type(rng, kinds):
+    name = rng.choice(kinds)
+    if name == "decimal":
+        precision = rng.choice((1, 5, 38))
+        return {"decimal": [precision, rng.randint(-128, 127)], "nullable": rng.random() < 0.5}
+    return name + rng.choice(("", "?"))
+
+
+def random_row(rng, dtype):
+    if nullable(dtype) and rng.random() < 0.3:
+        return None
+    name = kind(dtype)
+    if name == "bool":
+        return rng.random() < 0.5
+    if name == "utf8":
+        return "".join(rng.choice('a"\\/\n\t\x00\x1f\x7fé€😀') for _ in range(rng.randint(0, 4)))
+    if name == "binary":
+        return "".join(rng.choice("0123456789abcdefABCDEF") for _ in range(2 * rng.randint(0, 3)))
+    if name in INTEGERS:
+        low, high = INTEGERS[name]
+        return rng.choice((low, high, 0, 1, rng.randint(low, high)))
+    most = 10 ** name[1] - 1
+    return str(rng.choice((0, most, -most, rng.randint(-most, most))))
+
+
+def flat(rng, dtype, count):
+    return {"flat": dtype, "rows": [random_row(rng, dtype) for _ in range(count)]}
+
+
+def of_kind(rng, dtype, may_be_nothing):
+    """A type that differs from this one in its nullability at most."""
+    if not may_be_nothing and not nullable(dtype):
+        return dtype
+    return widened(dtype, rng.random() < 0.5)
+
+
+def random_part(rng, dtype, depth):
+    """A part of this type."""
+    shapes = ["flat", "flat", "constant"]
+    if depth > 0:
+        shapes += ["chunked", "chunked"]
+        if kind(dtype) == "bool" or kind(dtype) in INTEGERS or rng.random() < 0.2:
+            shapes += ["excepted", "excepted", "interleaved", "interleaved"]
+        if kind(dtype) in INTEGERS or rng.random() < 0.1:
+            shapes += ["lanes", "lanes"]
+    shape = rng.choice(shapes)
+    if shape == "flat":
+        return flat(rng, dtype, rng.choice((0, 1, 2, 3, 5, 8)))
+    if shape == "constant":
+        long = LAST - rng.randint(0, 1500) if rng.random() < 0.05 else rng.choice((0, 1, 4, 1030, 2100))
+        return {"constant": dtype, "row": random_row(rng, dtype), "len": long}
+    if shape == "chunked":
+        return {"chunked": dtype, "chunks": [random_part(rng, dtype, depth - 1) for _ in range(rng.randint(0, 4))]}
+    return {"lanes": random_lanes, "excepted": random_exceptions, "interleaved": random_weaving}[shape](rng, dtype, depth)
+
+
+def random_lanes(rng, dtype, depth):
+    inner = random_part(rng, dtype, depth - 1)
+    n_lanes, offset = rng.choice((1, 2, 4, 8, 32)), rng.choice((0, 0, 1, 5, 1000, 1023))
+    starts, places = [rng.choice((0, 0, 2))], []
+    places += [rng.randrange(65536) for _ in range(starts[0])]
+    for g in range(min(n_lanes * ceiling(offset + len_of(inner), CHUNK), 200)):
+        near = [p for p in range(g % n_lanes, CHUNK, n_lanes) if p < 12 or p > 1010 or rng.random() < 0.02]
+        held = sorted(rng.sample(near, min(len(near), rng.choice((0, 0, 1, 3)))))
+        places += held
+        starts.append(starts[-1] + len(held))
+    places += [rng.randrange(65536) for _ in range(rng.choice((0, 0, 1)))]
+    values = of_kind(rng, dtype, True)
+    rows = flat(rng, widened(dtype, False), len(places))["rows"]
+    return {"lanes": inner, "n_lanes": n_lanes, "offset": offset, "lane_offsets": {"flat": "u32", "rows": starts},
+            "indices": {"flat": "u16", "rows": places}, "values": {"flat": values, "rows": rows}}
+
+
+def random_exceptions(rng, dtype, depth):
+    base = random_part(rng, dtype, depth - 1)
+    offset = rng.choice((0, 0, 1, 1000, 1024, 5000, LAST - 2000))
+    length = len_of(base)
+    last = min(length, 3000)
+    count = min(last, rng.choice((1, 1, 2, 4, 30)))
+    named = {offset + (rng.randrange(last) if rng.random() < 0.9 else length - 1) for _ in range(count)}
+    rows = sorted(min(row, LAST) for row in named)
+    values = {"chunked": of_kind(rng, dtype, nullable(dtype)), "chunks": []}
+    values["chunks"] = [flat(rng, values["chunked"], len(rows))]
+    if rng.random() < 0.5:
+        values = values["chunks"][0]
+    counts = [sum(i < CHUNK * (offset // CHUNK + c) for i in rows)
+              for c in range(min(ceiling(offset % CHUNK + length, CHUNK), 20))]
+    chunk_offsets = {"flat": rng.choice(UNSIGNED[1:]), "rows": counts} if rng.random() < 0.6 else None
+    return {"excepted": base, "offset": offset, "indices": {"flat": "u64", "rows": rows}, "values": values,
+            "chunk_offsets": chunk_offsets}
+
+
+def random_weaving(rng, dtype, depth):
+    values = [random_part(rng, of_kind(rng, dtype, True), depth - 1) for _ in range(rng.choice((2, 2, 2, 2, 3, 3, 4, 1)))]
+    named = [(a, rng.randrange(min(len_of(value), 200))) for a, value in enumerate(values) if len_of(value) for _ in range(3)]
+    pairs = rng.sample(named, rng.randint(0, len(named)))
+    return {"interleaved": values, "array_indices": {"flat": "u8", "rows": [a for a, _ in pairs]},
+            "row_indices": {"flat": "u16", "rows": [r for _, r in pairs]}}
+
+
+def spots(value):
+    """Each place in a part where a number, a type of flat rows or a list stands, as a holder and its key."""
+    if isinstance(value, dict):
+        for key, held in value.items():
+            if key in ("n_lanes", "offset", "len", "chunk_offsets") and not isinstance(held, dict):
+                yield value, key
+            elif key in ("rows", "chunks", "interleaved") and isinstance(held, list):
+                yield value, key
+            elif key == "flat":
+                yield value, key
+            if key != "rows":
+                yield from spots(held)
+    elif isinstance(value, list):
+        for held in value:
+            yield from spots(held)
+
+
+def changed(rng, part):
+    """Changes one thing in the part, so that its JSON stays a reading."""
+    holder, key = rng.choice(list(spots(part)) or [(part, None)])
+    if key is None:
+        return
+    held = holder[key]
+    if key in ("n_lanes", "offset", "len"):
+        holder[key] = rng.choice((0, 1, 3, held + 1, max(held - 1, 0), 256, 1024, LAST))
+        holder[key] = min(holder[key], LAST)
+    elif key == "chunk_offsets":
+        holder[key] = {"flat": rng.choice(("u64", "i64", "u8?")), "rows": []}
+    elif key == "flat":
+        if kind(held) in INTEGERS and all(row is not None and 0 <= row < 128 for row in holder["rows"]):
+            holder[key] = rng.choice(list(INTEGERS)) + rng.choice(("", "?"))
+    elif held:
+        at = rng.randrange(len(held))
+        if rng.random() < 0.4:
+            del held[at]
+        elif rng.random() < 0.5:
+            held.insert(at, json.loads(json.dumps(rng.choice(held))))
+        elif key == "rows" and nullable(holder["flat"]):
+            held[at] = None
+        elif key == "rows" and isinstance(held[at], int) and not isinstance(held[at], bool) and kind(holder["flat"]) in INTEGERS:
+            low, high = INTEGERS[kind(holder["flat"])]
+            held[at] = min(high, max(low, held[at] + rng.choice((-1, 1, 2, 1024, -1024))))
+
+
+def random_plan(rng, length):
+    plan = []
+    for _ in range(rng.choice((0, 1, 1, 2, 3))):
+        if rng.random() < 0.5:
+            start = rng.choice((0, 0, 1, rng.randint(0, min(length, 2200)), length))
+            end = rng.choice((length, min(length, start + rng.randint(0, 9)), start, length - 1 if length else 0))
+            if rng.random() < 0.07:
+                end = rng.choice((0, min(length + 1, LAST), LAST))
+            plan.append({"slice": [start, end]})
+            length = max(end - start, 0)
+        else:
+            near = [rng.randrange(length) if rng.random() < 0.5 else rng.randrange(min(length, 20)) for _ in range(rng.randint(0, 4)) if length]
+            if rng.random() < 0.05:
+                near.append(rng.choice((length, LAST)))
+            plan.append({"points": near, "kept": rng.random() < 0.5})
+    if length > 3000:
+        start = rng.randrange(min(length, 2200))
+        plan.append({"slice": [start, start + rng.randint(0, min(9, length - start))]})
+    return plan
+
+
+def random_job(rng):
+    parts = []
+    for _ in range(rng.choice((1,) * 12 + (2, 2, 3, 0))):
+        kinds = [*INTEGERS, *INTEGERS, "bool", "bool", "utf8", "binary", "decimal"]
+        part = random_part(rng, random_type(rng, kinds), rng.randint(0, 3))
+        if rng.random() < 0.3:
+            changed(rng, part)
+        parts.append(part)
+    right = not any(map(first_fault, parts[:1]))
+    length = min(len_of(parts[0]), LAST) if parts and right else rng.randint(0, 5)
+    return {"parts": parts, "plan": random_plan(rng, length)}
+
+
+def objects(value):
+    """Each object and list in the job."""
+    if isinstance(value, (dict, list)):
+        yield value
+        for held in value.values() if isinstance(value, dict) else value:
+            yield from objects(held)
+
+
+def broken_form(rng, job):
+    """Changes the form of the job in one place, so that it is no job."""
+    holder = rng.choice(list(objects(job)))
+    if isinstance(holder, dict) and rng.random() < 0.5:
+        holder["more"] = 0
+    elif isinstance(holder, dict):
+        key = rng.choice(list(holder))
+        if rng.random() < 0.5:
+            holder[key + "s"] = holder.pop(key)
+        else:
+            holder[key] = rng.choice((1.5, {}, [[]]))
+    else:
+        holder.append(rng.choice((1.5, {}, [[]])))
+
+
+# ---- the comparison
+
+
+def line(value):
+    return json.dumps(value, sort_keys=True, separators=(",", ":"), ensure_ascii=False) + "\n"
+
+
+def wrong_reply(program, job, is_job):
+    """What is wrong with the program's reply, or none; and the name of the reply."""
+    if is_job:
+        right = replies(job)
+        name = right[0].get("rule", right[0].get("error", "a page"))
+        status, right = 1 if "error" in right[0] else 0, list(map(line, right))
+    else:
+        name, status, right = "no job", 3, [""]
+    done = subprocess.run([program, "run"], input=json.dumps(job).encode(), capture_output=True)
+    if done.returncode == status and done.stdout.decode() in right:
+        return None, name
+    return f"status {done.returncode}: {done.stdout.decode()}right: status {status}: {right[0]}", name
+
+
+def main():
+    parser = argparse.ArgumentParser(description="Compares replies of vxcol to random jobs with replies worked out here.")
+    parser.add_argument("--seed", type=int, default=1)
+    parser.add_argument("--jobs", type=int, default=2000)
+    parser.add_argument("--program", default=ROOT / "crates" / "vxcol" / "out" / "vxcol")
+    words = parser.parse_args()
+    met, wrong = collections.Counter(), 0
+    for number in range(words.jobs):
+        rng = random.Random(f"{words.seed} {number}")
+        job, is_job = random_job(rng), rng.random() < 0.95
+        if not is_job:
+            broken_form(rng, job)
+        said, name = wrong_reply(words.program, job, is_job)
+        met[name] += 1
+        if said:
+            wrong += 1
+            print(f"job {number}: {line(job)}{said}")
+    print(", ".join(f"{name} {count}" for name, count in met.most_common()))
+    print(f"{words.jobs} jobs, {wrong} wrong replies")
+    sys.exit(1 if wrong else 0)
+
+
+main()
