@@ -2,11 +2,12 @@
 ghost use Rattle.std.specs.Prelude.{IfOk};
 ghost use Rattle.vx_column.specs.Columns.{IsSound};
 
-use crate::parts::{chunked, flat, i32s, opened, read, read_from, sliced, two_chunks};
+use crate::parts::{chunked, flat, i32s, sliced, two_chunks};
 use std::alloc::Global;
 use std::test::Fail;
 use vx_base::{ColumnError, CountLedger, FlatColumn, Nullability, Res, Seq, Steps, Value};
 use vx_column::{ArrayProbe, Column};
+use vx_part_reads::{opened, read, read_from};
 use vx_plan::Part;
 
 fn nested(alloc: Global) -> Res<Part> {

@@ -1,8 +1,6 @@
-//! Tests of columns and chunked columns through their own calls.
+//! Tests of columns of chunks in chunks, through the calls of any column.
 #![tactic(auto)]
 
-#[cfg(test)]
-mod chunks;
 #[cfg(test)]
 mod columns;
 #[cfg(test)]

@@ -1,12 +1,12 @@
 //! Exceptions by row.
 ghost use Rattle.vx_column.specs.Columns.{IsSound};
 
-use crate::parts::{all, costs, flat, is_value, nullable, plain, read, shared, slice, sliced};
 use std::alloc::Global;
 use std::ops::Range;
 use std::test::Fail;
 use vx_base::{FlatColumn, PType, Res, Seq};
 use vx_column::Column;
+use vx_part_reads::{all, costs, flat, is_value, nullable, plain, read, shared, slice, sliced};
 use vx_plan::{Boxed, Part};
 
 /// Rows of `base` with those of `values` at the indices.

@@ -1,12 +1,12 @@
 //! Woven columns.
 ghost use Rattle.vx_column.specs.Columns.{IsSound};
 
-use crate::parts::{broken, costs, flat, is_value, read, shared, sliced};
 use std::alloc::Global;
 use std::ops::Range;
 use std::test::Fail;
 use vx_base::{PType, Res, Rule, Seq};
 use vx_column::Column;
+use vx_part_reads::{broken, costs, flat, is_value, read, shared, sliced};
 use vx_plan::Part;
 
 /// The rows of 10 and 20, and of 7, that the pairs name.

@@ -21,14 +21,16 @@ pub record IsPageOf (job : Asked) (text : List ℕ) (before after : ℕ) : Type 
   pub written : text ≡ line (page_json (shown answers last.dtype last.rows))
   pub rise : after ≤ before + plan_bound job.parts job.plan + rows_bound job.parts (length last.rows)
 
--- The text is the refusal, on a line, of an error that is true of the job.
-pub record IsRefusalOf (job : Asked) (text : List ℕ) : Type 0 where
+-- The text is the refusal, on a line, of an error that is true of the job, and the count of reads rose within the plan's
+-- bound.
+pub record IsRefusalOf (job : Asked) (text : List ℕ) (before after : ℕ) : Type 0 where
   pub error : ColumnError
   pub not_memory : error ≢ OutOfMemory
   pub admits : IsPlanError job.parts job.plan error
   pub written : text ≡ line (refusal_json error)
+  pub rise : after ≤ before + plan_bound job.parts job.plan
 
 -- the reply answers the job, while the count of reads went from a number to another
 abbrev pub Answers : Asked → Reply → ℕ → ℕ → Type 0
 Answers job (reply.Page text) before after = IsPageOf job text before after
-Answers job (reply.Refusal text) before after = IsRefusalOf job text
+Answers job (reply.Refusal text) before after = IsRefusalOf job text before after

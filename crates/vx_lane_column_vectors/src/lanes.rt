@@ -1,12 +1,12 @@
 //! Exceptions by lane.
 ghost use Rattle.vx_column.specs.Columns.{IsSound};
 
-use crate::parts::{all, costs, flat, is_value, nullable, plain, read, shared, slice, sliced};
 use std::alloc::Global;
 use std::ops::Range;
 use std::test::Fail;
 use vx_base::{FlatColumn, NoLedger, PType, Res, Seq, Steps, Value};
 use vx_column::Column;
+use vx_part_reads::{all, costs, flat, is_value, nullable, plain, read, shared, slice, sliced};
 use vx_plan::{Boxed, Part};
 
 /// Each number as often as it says.

@@ -1,52 +1,39 @@
-//! Flat parts and rows that the tests are made of.
+//! Columns of parts, and the numbers that are read from them. A row that is no number reads as nothing. Each call refuses
+//! as the calls of the column do.
 ghost use Rattle.std.specs.Prelude.{IfOk};
 ghost use Rattle.vx_column.specs.Columns.{IsSound};
 
 use std::alloc::Global;
 use std::ops::Range;
 use vx_base::{
-    ColumnError, CountLedger, DType, FlatColumn, Ledger, NoLedger, Nullability, PType, Res, Row,
-    Rule, Seq, Steps, Value,
+    ColumnError, CountLedger, FlatColumn, Ledger, NoLedger, Res, Row, Rule, Seq, Steps, Value,
 };
 use vx_column::{ArrayProbe, Column};
 use vx_plan::Part;
 
-/// Integers of this type, of which none is nothing.
-pub(crate) fn plain(ptype: PType) -> DType {
-    DType::Primitive(ptype, Nullability::NonNullable)
-}
-
-/// A flat column of these numbers.
-pub(crate) fn flat(alloc: Global, ptype: PType, numbers: &[i128]) -> Res<FlatColumn> {
-    let mut rows = Seq::new(alloc);
-    for number in numbers {
-        rows.push(Some(Value::Int(*number)))?;
-    }
-    FlatColumn::try_new(alloc, plain(ptype), rows)
-}
-
-/// A flat column of these numbers and of nothing, of a type that may be nothing.
-pub(crate) fn nullable(alloc: Global, ptype: PType, numbers: &[Option<i128>]) -> Res<FlatColumn> {
-    let mut rows = Seq::new(alloc);
-    for number in numbers {
-        rows.push(match number {
-            Some(number) => Some(Value::Int(*number)),
-            None => None,
-        })?;
-    }
-    FlatColumn::try_new(
-        alloc,
-        plain(ptype).with_nullability(Nullability::Nullable),
-        rows,
-    )
-}
-
 /// The column of the part.
-fn opened(rt: &HostRuntime, part: Part) -> Res<Column>
+pub fn opened(rt: &HostRuntime, part: Part) -> Res<Column>
     ensures { IfOk result IsSound }
 {
     let mut steps = Steps::new(rt, NoLedger::new());
     part.open(rt.alloc(), &mut steps)
+}
+
+/// Rows `start` to below `end` of the part's column.
+pub fn slice(rt: &HostRuntime, part: Part, range: Range<usize>) -> Res<Column>
+    ensures { IfOk result IsSound }
+{
+    let mut steps = Steps::new(rt, NoLedger::new());
+    let column = opened(rt, part)?;
+    column.slice(rt.alloc(), range, &mut steps)
+}
+
+/// Another handle on such a slice.
+pub fn shared(rt: &HostRuntime, part: Part, range: Range<usize>) -> Res<Column>
+    ensures { IfOk result IsSound }
+{
+    let column = slice(rt, part, range)?;
+    column.share(rt.alloc())
 }
 
 /// The number that a row is, where it is one.
@@ -65,8 +52,17 @@ fn numbers(alloc: Global, rows: &[Row]) -> Res<Vec<Option<i128>>> {
     Ok(numbers)
 }
 
+/// The numbers of all rows of a flat column.
+pub fn numbers_of(rt: &HostRuntime, column: &FlatColumn) -> Res<Vec<Option<i128>>> {
+    let alloc = rt.alloc();
+    let mut steps = Steps::new(rt, NoLedger::new());
+    let mut rows = Seq::new(alloc);
+    column.copy_into(alloc, 0..column.len(), &mut rows, &mut steps)?;
+    numbers(alloc, rows.as_slice())
+}
+
 /// The numbers of all rows of the column.
-pub(crate) fn all(rt: &HostRuntime, column: &Column) -> Res<Vec<Option<i128>>>
+pub fn all(rt: &HostRuntime, column: &Column) -> Res<Vec<Option<i128>>>
     requires { IsSound column.now }
 {
     let alloc = rt.alloc();
@@ -77,30 +73,13 @@ pub(crate) fn all(rt: &HostRuntime, column: &Column) -> Res<Vec<Option<i128>>>
 }
 
 /// The numbers of rows `start` to below `end` of the part.
-pub(crate) fn sliced(rt: &HostRuntime, part: Part, range: Range<usize>) -> Res<Vec<Option<i128>>> {
+pub fn sliced(rt: &HostRuntime, part: Part, range: Range<usize>) -> Res<Vec<Option<i128>>> {
     let column = slice(rt, part, range)?;
     all(rt, &column)
 }
 
-/// Rows `start` to below `end` of the part's column.
-pub(crate) fn slice(rt: &HostRuntime, part: Part, range: Range<usize>) -> Res<Column>
-    ensures { IfOk result IsSound }
-{
-    let mut steps = Steps::new(rt, NoLedger::new());
-    let column = opened(rt, part)?;
-    column.slice(rt.alloc(), range, &mut steps)
-}
-
-/// Another handle on such a slice.
-pub(crate) fn shared(rt: &HostRuntime, part: Part, range: Range<usize>) -> Res<Column>
-    ensures { IfOk result IsSound }
-{
-    let column = slice(rt, part, range)?;
-    column.share(rt.alloc())
-}
-
 /// What a probe of the part reads at these rows, and what the reads count.
-pub(crate) fn read(rt: &HostRuntime, part: Part, rows: &[usize]) -> Res<(Vec<Option<i128>>, u64)> {
+pub fn read(rt: &HostRuntime, part: Part, rows: &[usize]) -> Res<(Vec<Option<i128>>, u64)> {
     let column = opened(rt, part)?;
     read_from(rt, &column, rows)
 }
@@ -117,7 +96,8 @@ fn read_one<L: Ledger>(
     Ok(number(&row))
 }
 
-fn read_from(rt: &HostRuntime, column: &Column, rows: &[usize]) -> Res<(Vec<Option<i128>>, u64)>
+/// The same of a column.
+pub fn read_from(rt: &HostRuntime, column: &Column, rows: &[usize]) -> Res<(Vec<Option<i128>>, u64)>
     requires { IsSound column.now }
 {
     let alloc = rt.alloc();
@@ -130,14 +110,14 @@ fn read_from(rt: &HostRuntime, column: &Column, rows: &[usize]) -> Res<(Vec<Opti
 }
 
 /// Whether row `at` of the part is a value.
-pub(crate) fn is_value(rt: &HostRuntime, part: Part, at: usize) -> Res<bool> {
+pub fn is_value(rt: &HostRuntime, part: Part, at: usize) -> Res<bool> {
     let column = opened(rt, part)?;
     let mut steps = Steps::new(rt, NoLedger::new());
     ArrayProbe::once(&column).execute_is_valid(rt.alloc(), at, &mut steps)
 }
 
 /// The most that a read of the part and a cut end of it count, where it is of the encoding of this name.
-pub(crate) fn costs(rt: &HostRuntime, part: Part, id: &str) -> Res<Option<(u64, u64)>> {
+pub fn costs(rt: &HostRuntime, part: Part, id: &str) -> Res<Option<(u64, u64)>> {
     let column = opened(rt, part)?;
     Ok(costs_of(&column, id))
 }
@@ -153,7 +133,7 @@ fn costs_of(column: &Column, id: &str) -> Option<(u64, u64)>
 }
 
 /// The rule that the part breaks first.
-pub(crate) fn broken(rt: &HostRuntime, part: Part) -> Option<Rule> {
+pub fn broken(rt: &HostRuntime, part: Part) -> Option<Rule> {
     match opened(rt, part) {
         Err(ColumnError::Malformed { rule, .. }) => Some(rule),
         _ => None,

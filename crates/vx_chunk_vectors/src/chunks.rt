@@ -3,12 +3,13 @@ ghost use Rattle.std.specs.Prelude.{All, IfOk};
 ghost use Rattle.vx_column.specs.Columns.{IsSound};
 ghost use Rattle.vx_column.specs.declared.column.Column.TheVariants.{Chunked as chunked_column};
 
-use crate::parts::{all, flat, i32s, numbers_of, opened};
 use std::alloc::Global;
 use std::test::Fail;
-use vx_base::{ColumnError, CountLedger, Ledger, NoLedger, Res, Steps};
+use vx_base::{ColumnError, CountLedger, Ledger, NoLedger, Nullability, PType, Res, Steps};
 use vx_chunks::{Boundaries, ChunkedData, SlicePlan};
 use vx_column::{ChunkedArray, Column};
+use vx_part_reads::{all, flat, numbers_of, opened, plain};
+use vx_plan::Part;
 
 /// Flat columns of these numbers.
 fn columns(rt: &HostRuntime, lists: &[&[i128]]) -> Res<Vec<Column>>
@@ -17,7 +18,8 @@ fn columns(rt: &HostRuntime, lists: &[&[i128]]) -> Res<Vec<Column>>
     let alloc = rt.alloc();
     let mut columns = Vec::new(alloc);
     for list in lists {
-        columns.push(opened(rt, flat(alloc, list)?)?)?;
+        let rows = flat(alloc, PType::I32, list)?;
+        columns.push(opened(rt, Part::Flat(rows))?)?;
     }
     Ok(columns)
 }
@@ -26,7 +28,7 @@ fn columns(rt: &HostRuntime, lists: &[&[i128]]) -> Res<Vec<Column>>
 fn array(rt: &HostRuntime, lists: &[&[i128]]) -> Res<ChunkedArray>
     ensures { IfOk result (λ array. IsSound (chunked_column array)) }
 {
-    ChunkedArray::try_new(rt.alloc(), columns(rt, lists)?, i32s())
+    ChunkedArray::try_new(rt.alloc(), columns(rt, lists)?, plain(PType::I32))
 }
 
 /// The numbers of the flat column that an array reduces to.
@@ -299,9 +301,11 @@ fn numbers_of_chunks_are_shown_and_never_differ(rt: HostRuntime) -> Result<(), F
     let three = ChunkedData { nchunks: 3 };
     assert_eq!(rt; format!(in alloc; "{three}")?.as_str(), "nchunks: 3");
     assert!(rt; three == ChunkedData { nchunks: 4 });
-    assert!(rt; ChunkedData::validate(&[i32s(), i32s()], &i32s()).is_ok());
-    let other = i32s().with_nullability(vx_base::Nullability::Nullable);
-    let refused = ChunkedData::validate(&[i32s(), other], &i32s());
+    let dtype = plain(PType::I32);
+    let types = [plain(PType::I32), plain(PType::I32)];
+    assert!(rt; ChunkedData::validate(&types, &dtype).is_ok());
+    let other = plain(PType::I32).with_nullability(Nullability::Nullable);
+    let refused = ChunkedData::validate(&[plain(PType::I32), other], &dtype);
     assert!(rt; matches!(refused, Err(ColumnError::MismatchedTypes)));
     Ok(())
 }
