@@ -39,12 +39,24 @@ impl Source {
 
 /// Rows that fit a type: a window over shared rows, or one shared row several times. Contracts see the type and
 /// the rows alone.
-#[derive(Drop)]
 pub struct FlatColumn {
     dtype: DType,
     source: Source,
     start: usize,
     end: usize,
+}
+
+// Written out, so that letting a column go is one call: what is derived is written at each way out of each function that
+// holds one, variant by variant of its type.
+impl Drop for FlatColumn {
+    fn drop(self) {
+        let FlatColumn {
+            dtype: _,
+            source: _,
+            start: _,
+            end: _,
+        } = self;
+    }
 }
 
 impl Model for FlatColumn {

@@ -24,15 +24,23 @@ use vx_chunks::{Boundaries, SlicePlan};
 
 /// Chunks of one type, whose rows are joined in order. Generic in the child, so that columns are the only type that
 /// holds itself.
-#[derive(Drop)]
 pub struct Chunked<C> {
     dtype: DType,
     boundaries: Boundaries,
     chunks: Shared<Seq<C>>,
 }
 
+impl<C: Drop> Drop for Chunked<C> {
+    fn drop(self) {
+        let Chunked {
+            dtype: _,
+            boundaries: _,
+            chunks: _,
+        } = self;
+    }
+}
+
 /// A column, by its encoding. It means its type and its rows; its parts are never visible.
-#[derive(Drop)]
 pub enum Column {
     /// Rows as they are, or one row several times.
     Flat(FlatColumn),
@@ -44,6 +52,19 @@ pub enum Column {
     Excepted(Excepted<Column>),
     /// Rows that two selectors name among those of several values.
     Interleave(Interleave<Column>),
+}
+
+// Written out, so that letting a column go is one call, and not each of its variants at each way out of a function.
+impl Drop for Column {
+    fn drop(self) {
+        match self {
+            Column::Flat(_rows) => {}
+            Column::Chunked(_chunked) => {}
+            Column::Patched(_patched) => {}
+            Column::Excepted(_excepted) => {}
+            Column::Interleave(_interleave) => {}
+        }
+    }
 }
 
 /// A column of chunks that are columns.

@@ -24,13 +24,23 @@ use vx_patches::PatchIndex;
 use vx_search::SearchResult;
 
 /// A base, some of whose rows are replaced by the rows of values, in order. Generic in the child, as a chunked column is.
-#[derive(Drop)]
 pub struct Excepted<C> {
     base: Shared<C>,
     index: PatchIndex,
     values: Shared<C>,
     // The indices, and the chunk offsets where there are any, as columns over the rows that the index holds.
     slots: Shared<Seq<C>>,
+}
+
+impl<C: Drop> Drop for Excepted<C> {
+    fn drop(self) {
+        let Excepted {
+            base: _,
+            index: _,
+            values: _,
+            slots: _,
+        } = self;
+    }
 }
 
 /// A column with exceptions, whose base and values are columns.

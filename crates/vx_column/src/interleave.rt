@@ -15,11 +15,20 @@ use vx_base::{ColumnError, DType, FlatColumn, Ledger, Res, Row, Rule, Seq, Share
 use vx_interleave::Selectors;
 
 /// Values, of which each row is one that the selectors name. Generic in the child, as a chunked column is.
-#[derive(Drop)]
 pub struct Interleave<C> {
     dtype: DType,
     selectors: Selectors,
     values: Shared<Seq<C>>,
+}
+
+impl<C: Drop> Drop for Interleave<C> {
+    fn drop(self) {
+        let Interleave {
+            dtype: _,
+            selectors: _,
+            values: _,
+        } = self;
+    }
 }
 
 /// A column woven of values that are columns.

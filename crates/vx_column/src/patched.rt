@@ -20,10 +20,15 @@ use vx_lanes::layout::CHUNK;
 
 /// An inner column, whose values exceptions replace where they stand. Nothing stays nothing. Generic in the child, as a
 /// chunked column is.
-#[derive(Drop)]
 pub struct Patched<C> {
     inner: Shared<C>,
     lanes: Lanes,
+}
+
+impl<C: Drop> Drop for Patched<C> {
+    fn drop(self) {
+        let Patched { inner: _, lanes: _ } = self;
+    }
 }
 
 /// A column with exceptions by lane, whose inner column is a column.

@@ -139,8 +139,9 @@ fn counted(rt: &HostRuntime, column: &Column, row: usize, number: i128) -> Optio
 {
     let mut steps = Steps::new(rt, CountLedger::new());
     let mut probe = ArrayProbe::once(column);
-    match probe.execute_scalar(rt.alloc(), row, &mut steps) {
-        Ok(Some(Value::Int(found))) if found == number => Some(steps.ledger().count()),
+    let read = probe.execute_scalar(rt.alloc(), row, &mut steps);
+    match &read {
+        Ok(Some(Value::Int(found))) if *found == number => Some(steps.ledger().count()),
         _ => None,
     }
 }

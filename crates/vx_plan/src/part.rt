@@ -9,7 +9,6 @@ use vx_base::{ColumnError, DType, FlatColumn, Ledger, Path, Res, Row, Seq, Steps
 use vx_column::{ChunkedArray, Column, ExceptedArray, InterleaveArray, PatchedArray};
 
 /// What a column is assembled from: a tree of flat rows.
-#[derive(Drop)]
 pub enum Part {
     /// Rows as they are.
     Flat(FlatColumn),
@@ -47,6 +46,43 @@ pub enum Part {
         array_indices: FlatColumn,
         row_indices: FlatColumn,
     },
+}
+
+impl Drop for Part {
+    fn drop(self) {
+        match self {
+            Part::Flat(_rows) => {}
+            Part::Constant {
+                dtype: _dtype,
+                row: _row,
+                len: _len,
+            } => {}
+            Part::Chunked {
+                dtype: _dtype,
+                chunks: _chunks,
+            } => {}
+            Part::Lanes {
+                inner: _inner,
+                n_lanes: _n_lanes,
+                offset: _offset,
+                lane_offsets: _lane_offsets,
+                indices: _indices,
+                values: _values,
+            } => {}
+            Part::Excepted {
+                base: _base,
+                offset: _offset,
+                indices: _indices,
+                values: _values,
+                chunk_offsets: _chunk_offsets,
+            } => {}
+            Part::Interleaved {
+                values: _values,
+                array_indices: _array_indices,
+                row_indices: _row_indices,
+            } => {}
+        }
+    }
 }
 
 impl Part {

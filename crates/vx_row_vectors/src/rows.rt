@@ -106,7 +106,7 @@ fn rows_are_copied(rt: HostRuntime) -> Result<(), Fail> {
     let row = int(7);
     assert_eq!(rt; row_cmp(&copy_row(alloc, &row)?, &row), Ordering::Equal);
     let value = copy_value(alloc, &Value::Bool(true))?;
-    assert!(rt; matches!(value, Value::Bool(true)));
+    assert!(rt; matches!(&value, Value::Bool(true)));
     let twice = repeat_row(alloc, &row, 2)?;
     let copies = copy_rows(alloc, twice.as_slice())?;
     assert_eq!(rt;

@@ -10,7 +10,6 @@ use crate::shared::Shared;
 
 /// The type of a column. Types share what they hold.
 #[cycle(dtype)]
-#[derive(Drop)]
 pub enum DType {
     Bool(Nullability),
     Primitive(PType, Nullability),
@@ -27,6 +26,22 @@ pub enum DType {
 #[derive(Drop)]
 pub struct Fields {
     list: Seq<(Name, DType)>,
+}
+
+impl Drop for DType {
+    #[cycle(drop)]
+    fn drop(self) {
+        match self {
+            DType::Bool(_nullability) => {}
+            DType::Primitive(_number, _nullability) => {}
+            DType::Decimal(_number, _nullability) => {}
+            DType::Utf8(_nullability) => {}
+            DType::Binary(_nullability) => {}
+            DType::List(_item, _nullability) => {}
+            DType::FixedSizeList(_item, _size, _nullability) => {}
+            DType::Struct(_fields, _nullability) => {}
+        }
+    }
 }
 
 impl DType {

@@ -6,9 +6,15 @@ use std::marker::Model;
 use std::rc::Rc;
 
 /// A value behind a count of owners. Contracts see the value: two handles on one value are equal.
-#[derive(Debug, Drop)]
+#[derive(Debug)]
 pub struct Shared<T> {
     inner: Rc<T>,
+}
+
+impl<T: Drop> Drop for Shared<T> {
+    fn drop(self) {
+        let Shared { inner: _ } = self;
+    }
 }
 
 impl<T> Model for Shared<T> {

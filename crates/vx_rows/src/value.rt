@@ -3,7 +3,6 @@ use crate::seq::Seq;
 use crate::text::Text;
 
 /// A value, by its kind.
-#[derive(Drop)]
 pub enum Value {
     /// True or false.
     Bool(bool),
@@ -19,6 +18,20 @@ pub enum Value {
     List(Seq<Row>),
     /// One row for each field, in the order of the fields.
     Struct(Seq<Row>),
+}
+
+impl Drop for Value {
+    fn drop(self) {
+        match self {
+            Value::Bool(_truth) => {}
+            Value::Int(_number) => {}
+            Value::Decimal(_number) => {}
+            Value::Utf8(_text) => {}
+            Value::Binary(_bytes) => {}
+            Value::List(_rows) => {}
+            Value::Struct(_rows) => {}
+        }
+    }
 }
 
 /// A row: nothing, or a value.

@@ -90,19 +90,22 @@ fn accessors(rt: HostRuntime) {
 #[test]
 fn types(rt: HostRuntime) {
     let message = PatchesMetadata::new(300, 5, PType::U16, Some(2), Some(PType::I64), Some(0));
+    let indices = message.indices_dtype();
     assert!(rt;
         matches!(
-            message.indices_dtype(),
+            &indices,
             Ok(DType::Primitive(PType::U16, Nullability::NonNullable))
         )
     );
+    let chunk_offsets = message.chunk_offsets_dtype();
     assert!(rt;
         matches!(
-            message.chunk_offsets_dtype(),
+            &chunk_offsets,
             Ok(Some(DType::Primitive(PType::I64, Nullability::NonNullable)))
         )
     );
-    assert!(rt; matches!(PatchesMetadata::default().chunk_offsets_dtype(), Ok(None)));
+    let absent = PatchesMetadata::default().chunk_offsets_dtype();
+    assert!(rt; matches!(&absent, Ok(None)));
 }
 
 /// A number of the type of indices, and what is wrong with it. -1 takes ten bytes.
