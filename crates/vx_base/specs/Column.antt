@@ -1,5 +1,5 @@
 -- What a column of flat rows is: a type, and rows.
-use Rattle.std.specs.Prelude.{Bool, ◌≡◌, ◌⊎◌, List, [], Option, IsTrue, IsFalse, refl}
+use Rattle.std.specs.Prelude.{Bool, ◌≡◌, ◌⊎◌, List, [], Option, Result, Err, IsTrue, IsFalse, refl}
 use Rattle.std.specs.Coded.{Coded, code_by, coded×, coded_list, coded_option}
 use Rattle.vx_rows.specs.declared.dtype.DType.{DType}
 use Rattle.vx_rows.specs.declared.value.Value.{Value}
@@ -29,3 +29,7 @@ IsFlat c = IsTrue (rows_fit c.dtype c.rows)
 -- why a maker refuses, by whether the rows fit
 abbrev pub RefusesMisfit : Bool → ColumnError → Type 0
 RefusesMisfit fits e = (e ≡ OutOfMemory) ⊎ ((e ≡ Malformed [] RowType) × IsFalse fits)
+
+-- the refusal of rows that don't fit
+abbrev pub misfit : {A : Type 0} → Result A ColumnError
+misfit = Err (Malformed [] RowType)

@@ -4,7 +4,7 @@ ghost use Rattle.std.specs.List.{slice_range};
 ghost use Rattle.vx_rows.specs.Fits.{rows_fit, row_fits};
 ghost use Rattle.vx_rows.specs.Order.{row_cmp};
 ghost use Rattle.vx_rows.specs.Sizes.{row_takes_memory, type_takes_memory};
-ghost use Rattle.vx_base.specs.Column.{flat, IsFlat, RefusesMisfit};
+ghost use Rattle.vx_base.specs.Column.{flat, IsFlat, RefusesMisfit, misfit};
 ghost use Rattle.vx_base.specs.Numbers.{row_int, numbers_of, is_integer, is_unsigned};
 
 use crate::steps::{Ledger, Steps};
@@ -26,13 +26,13 @@ enum Source {
 }
 
 impl Source {
-    fn copy(&self) -> Res<Source>
+    fn share(&self) -> Res<Source>
         ensures ok { IfOk result (λ s. s ≡ self.now) }
         ensures err { IsOkUnless result ColumnError.OutOfMemory }
     {
         match self {
-            Source::Rows(rows) => Ok(Source::Rows(rows.copy()?)),
-            Source::Constant(row) => Ok(Source::Constant(row.copy()?)),
+            Source::Rows(rows) => Ok(Source::Rows(rows.share()?)),
+            Source::Constant(row) => Ok(Source::Constant(row.share()?)),
         }
     }
 }
@@ -77,7 +77,10 @@ impl FlatColumn {
     /// A column of these rows. Refuses `Malformed` exactly where some row doesn't fit.
     pub fn try_new(alloc: Global, dtype: DType, rows: Seq<Row>) -> Res<FlatColumn>
         ensures ok { IfOk result (λ c. (c ≡ flat dtype rows) × IsTrue (rows_fit dtype rows)) }
+        ensures fits { IfOk result IsFlat }
         ensures err { IfErr result (λ e. RefusesMisfit (rows_fit dtype rows) e) }
+        // A misfit is told without taking memory.
+        ensures misfit { IsFalse (rows_fit dtype rows) → result ≡ misfit }
     {
         if !rows_fit(rows.as_slice(), &dtype) {
             return Err(ColumnError::Malformed {
@@ -97,7 +100,10 @@ impl FlatColumn {
     /// One stored row, `len` times. Refuses `Malformed` exactly where it doesn't fit.
     pub fn constant(alloc: Global, dtype: DType, row: Row, len: usize) -> Res<FlatColumn>
         ensures ok { IfOk result (λ c. (c ≡ flat dtype (replicate len row)) × IsTrue (row_fits dtype row)) }
+        ensures fits { IfOk result IsFlat }
         ensures err { IfErr result (λ e. RefusesMisfit (row_fits dtype row) e) }
+        // A misfit is told without taking memory.
+        ensures misfit { IsFalse (row_fits dtype row) → result ≡ misfit }
     {
         if !row_fits(&dtype, &row) {
             return Err(ColumnError::Malformed {
@@ -116,6 +122,7 @@ impl FlatColumn {
     /// A column of no rows.
     pub fn empty(alloc: Global, dtype: DType) -> Res<FlatColumn>
         ensures ok { IfOk result (λ c. c ≡ flat dtype []) }
+        ensures fits { IfOk result IsFlat }
         ensures err { IsOkUnless result ColumnError.OutOfMemory }
     {
         Ok(FlatColumn {
@@ -129,11 +136,12 @@ impl FlatColumn {
     /// Another handle on the same rows.
     pub fn share(&self) -> Res<FlatColumn>
         ensures ok { IfOk result (λ c. c ≡ self.now) }
+        ensures fits { IfOk result IsFlat }
         ensures err { IsOkUnless result ColumnError.OutOfMemory }
     {
         Ok(FlatColumn {
             dtype: self.dtype.copy()?,
-            source: self.source.copy()?,
+            source: self.source.share()?,
             start: self.start,
             end: self.end,
         })
@@ -166,11 +174,12 @@ impl FlatColumn {
         requires order { range.start ≤ range.end }
         requires inside { range.end ≤ length self.now.rows }
         ensures ok { IfOk result (λ c. c ≡ flat self.now.dtype (slice_range self.now.rows range.start range.end)) }
+        ensures fits { IfOk result IsFlat }
         ensures err { IsOkUnless result ColumnError.OutOfMemory }
     {
         Ok(FlatColumn {
             dtype: self.dtype.copy()?,
-            source: self.source.copy()?,
+            source: self.source.share()?,
             start: self.start + range.start,
             end: self.start + range.end,
         })

@@ -117,7 +117,7 @@ impl Boundaries {
         ensures last { index ≡ total self.now →
             (result.0 ≡ length self.now - 1) × (result.1 ≡ slice_index self.now result.0) }
         ensures rise { steps.new ≤ steps.old + searched.search_bound (length self.now + 1) }
-        ensures kept { steps.old ≤ steps.new }
+        ensures monotone { steps.old ≤ steps.new }
     {
         let after = self.chunk_after(index, steps);
         let chunk = after.min(self.nchunks()).saturating_sub(1);
@@ -134,7 +134,7 @@ impl Boundaries {
         ensures above { index < total self.now → index < total (take result self.now) }
         ensures last { index ≡ total self.now → result ≡ length self.now + 1 }
         ensures rise { steps.new ≤ steps.old + searched.search_bound (length self.now + 1) }
-        ensures kept { steps.old ≤ steps.new }
+        ensures monotone { steps.old ≤ steps.new }
     {
         self.bound_above(index, steps)
     }
@@ -145,7 +145,7 @@ impl Boundaries {
         ensures below { 0 < result → total (take (result - 1) self.now) ≤ index }
         ensures above { result < length self.now + 1 → index < total (take result self.now) }
         ensures rise { steps.new ≤ steps.old + searched.search_bound (length self.now + 1) }
-        ensures kept { steps.old ≤ steps.new }
+        ensures monotone { steps.old ≤ steps.new }
     {
         let mut boundaries = SortedSlice::new(self.values());
         let place = boundaries.search_sorted(&index, SearchSortedSide::Right, steps);
@@ -157,7 +157,7 @@ impl Boundaries {
         ensures ok { IfOk result (λ b. b ≡ self.now) }
         ensures err { IsOkUnless result ColumnError.OutOfMemory }
     {
-        let ends = self.ends.copy()?;
+        let ends = self.ends.share()?;
         let offsets = self.offsets.share()?;
         Ok(Boundaries { ends, offsets })
     }

@@ -47,7 +47,7 @@ impl Boundaries {
         ensures plan { IsPlanOf self.now range.start range.end result }
         ensures rise { steps.new ≤ steps.old
             + ends_cut range.start range.end (total self.now) * search_bound (length self.now + 1) }
-        ensures kept { steps.old ≤ steps.new }
+        ensures monotone { steps.old ≤ steps.new }
     {
         let Range { start, end } = range;
         if start == 0 && end == self.len() {
@@ -80,7 +80,7 @@ impl Boundaries {
         ensures place { result.1 ≤ slice_index self.now result.0 }
         ensures row { total (take result.0 self.now) + result.1 ≡ start }
         ensures rise { steps.new ≤ steps.old + cond (start == 0) 0 1 * search_bound (length self.now + 1) }
-        ensures kept { steps.old ≤ steps.new }
+        ensures monotone { steps.old ≤ steps.new }
     {
         if start == 0 {
             return (0, 0);
@@ -97,7 +97,7 @@ impl Boundaries {
         ensures row { total (take result.0 self.now) + result.1 ≡ end }
         ensures full { end ≡ total self.now → result.1 ≡ slice_index self.now result.0 }
         ensures rise { steps.new ≤ steps.old + cond (end == total self.now) 0 1 * search_bound (length self.now + 1) }
-        ensures kept { steps.old ≤ steps.new }
+        ensures monotone { steps.old ≤ steps.new }
     {
         if end == self.len() {
             let last = self.nchunks() - 1;

@@ -22,7 +22,8 @@ use Rattle.vx_rows.specs.declared.error.ColumnError.TheVariants.{OutOfMemory}
 use Rattle.vx_search.proofs.Powers.{search_bound-le}
 use Rattle.vx_base.specs.Column.{Flat, flat}
 use Rattle.vx_rows.specs.declared.dtype.DType.{DType}
-use Rattle.vx_column.specs.Columns.{Rows, type_of, joined, greatest, rows_of, len_of, point_cost, cut_cost, lane_cost, is_plain, all_true, select_bound, IsSound, IsSliceOf, IsWhole, last_piece}
+use Rattle.vx_column.specs.Columns.{type_of, rows_of, len_of, point_cost, cut_cost, lane_cost, is_plain, all_true, select_bound, IsSound, IsSliceOf, IsWhole, last_piece}
+use Rattle.vx_job.specs.Rows.{Rows, joined, greatest}
 use Rattle.vx_column.specs.declared.column.Chunked.{Chunked}
 use Rattle.vx_column.specs.declared.patched.Patched.{Patched}
 use Rattle.vx_column.specs.declared.excepted.Excepted.{Excepted}

@@ -15,8 +15,9 @@ use Rattle.std.specs.declared.ops.Range.{Range}
 use Rattle.vx_patches.specs.Slices.{rows_inside, cut_cost as places_cut_cost, IsKept, IsSliceOf as IsPlaceSlice}
 use Rattle.vx_column.specs.Excepts.{IsKeptOf}
 use Rattle.vx_patches.proofs.Columns.{value_inside, value_of_found, value_of_missing, none_inside_pairs, slice_places, slice_pairs, slice_number, slice_front, slice_back, slice_costs}
-use Rattle.vx_column.specs.Kinds.{AreExceptionKinds}
-use Rattle.vx_column.specs.Columns.{Rows, rows_below, rows_of, type_of, len_of, point_cost, cut_cost, lane_cost, is_plain, IsSound, IsSliceOf}
+use Rattle.vx_job.specs.Kinds.{AreExceptionKinds}
+use Rattle.vx_column.specs.Columns.{rows_of, type_of, len_of, point_cost, cut_cost, lane_cost, is_plain, IsSound, IsSliceOf}
+use Rattle.vx_job.specs.Rows.{Rows, rows_below}
 use Rattle.vx_column.specs.declared.excepted.Excepted.{Excepted}
 use Rattle.vx_column.specs.declared.column.Column.{Column}
 use Rattle.vx_column.specs.declared.column.Column.TheVariants as column
@@ -138,12 +139,12 @@ cut_kinds x index start end first last s h k places base values b v =
     let within : end ≤ len_of x.base = omega (arith, len_excepted x) in
     let types = here.alike in
     record {
-      scalar = rw b.dtype here.scalar;
+      kind = rw b.dtype here.kind;
       sorted = places.sound;
       as_long = ap (λ (i : Index). i.len) places.is ∙ sym (slice_len x.base base start end b h within);
       paired = slice_len x.values values first last v from_first fits ∙ sym (slice_number x.index index start end first last here.sorted places);
       alike = rw (v.dtype, b.dtype) here.alike;
-      nothings = rw (v.dtype, b.dtype) here.nothings;
+      nulls = rw (v.dtype, b.dtype) here.nulls;
     }
 
 pub cut_some : (x y : Excepted Column) (index : Index) (start end first last : ℕ) → IsSound (column.Excepted x) → start ≤ end → end ≤ len_of (column.Excepted x) →

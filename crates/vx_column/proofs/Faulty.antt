@@ -20,9 +20,9 @@ use Rattle.vx_patches.specs.Making.{index_rules, index_fault, places_fault, chun
 use Rattle.vx_lanes.specs.Rules.{IsFirstBroken, LayoutCause}
 use Rattle.vx_lanes.specs.declared.layout.Layout.{Layout}
 use Rattle.vx_lanes.proofs.Sound.{passed}
-use Rattle.vx_column.specs.Kinds.{AreExceptionKinds, is_scalar, may_be_nothing}
-use Rattle.vx_column.specs.Faults.{IsFirstFault, value_rules, exceptions_fault, all_scalar, woven_fault}
-use Rattle.vx_column.specs.Faults.Fault.{Broken}
+use Rattle.vx_job.specs.Kinds.{AreExceptionKinds, is_bool_or_integer, is_nullable}
+use Rattle.vx_job.specs.Faults.{IsFirstFault, value_rules, exceptions_fault, all_bool_or_integer, interleaved_fault}
+use Rattle.vx_job.specs.Faults.Fault.{Broken}
 
 -- a refusal names a rule
 pub refusal_told : (fault : Option Rule) (e : ColumnError) → Refuses fault e → (rule : Rule) × (fault ≡ Some rule) × (e ≡ Malformed [] rule)
@@ -63,12 +63,12 @@ fault_of_offsets alike base values len offset count indices offsets fault e f h 
     ∙ ap (λ (o : Option Rule). option_or o (chunk_fault len offset indices offsets)) f ∙ h
 
 values_tell : (indices : Flat) (alike : Bool) (base values : DType) (count : ℕ) → first_broken (value_rules indices alike base values count) ≡ None →
-    (count ≡ length indices.rows) × (alike ≡ true) × (may_be_nothing values ≡ true → may_be_nothing base ≡ true)
+    (count ≡ length indices.rows) × (alike ≡ true) × (is_nullable values ≡ true → is_nullable base ≡ true)
 values_tell indices alike base values count e =
     let p = passed _ (not (nat_eq count (length indices.rows))) _ e in
     let q = passed _ (not alike) _ p.1 in
-    let r = passed _ (may_be_nothing values && not (may_be_nothing base)) _ q.1 in
-    (grind (arith, nat_tests, p.0), not_false alike q.0, only_base (may_be_nothing values) (may_be_nothing base) r.0)
+    let r = passed _ (is_nullable values && not (is_nullable base)) _ q.1 in
+    (grind (arith, nat_tests, p.0), not_false alike q.0, only_base (is_nullable values) (is_nullable base) r.0)
   where
     not_false : (b : Bool) → not b ≡ false → b ≡ true
     not_false true e = refl
@@ -80,41 +80,41 @@ values_tell indices alike base values count e =
     only_base false b e f = absurd cc
 
 -- what no broken rule leaves
-pub exceptions_fit : (alike : Bool) (base values : DType) (len offset count : ℕ) (indices : Flat) (offsets : Option Flat) (index : Index) → is_scalar base ≡ true → (IsTrue alike → AlikeTypes values base) →
+pub exceptions_fit : (alike : Bool) (base values : DType) (len offset count : ℕ) (indices : Flat) (offsets : Option Flat) (index : Index) → is_bool_or_integer base ≡ true → (IsTrue alike → AlikeTypes values base) →
     index ≡ made len offset indices offsets → IsIndex index → first_broken (value_rules indices alike base values count) ≡ None → AreExceptionKinds index base len values count
 exceptions_fit alike base values len offset count indices offsets index scalar tells is sound clean =
     let told = values_tell indices alike base values count clean in
     record {
-      scalar = scalar;
+      kind = scalar;
       sorted = sound;
       as_long = ap (λ (i : Index). i.len) is;
       paired = told.0 ∙ sym (length_numbers indices.rows) ∙ sym (ap (λ (i : Index). length (indices_of i)) is);
       alike = tells told.1;
-      nothings = told.2;
+      nulls = told.2;
     }
 
--- the rules of woven values, one after the other
-pub fault_few : (alike : Bool) (lens : List ℕ) (arrays rows : Flat) → nat_lt (length lens) 2 ≡ true → woven_fault alike lens arrays rows ≡ Some TooFewValues
+-- the rules of interleaved values, one after the other
+pub fault_few : (alike : Bool) (lens : List ℕ) (arrays rows : Flat) → nat_lt (length lens) 2 ≡ true → interleaved_fault alike lens arrays rows ≡ Some TooFewValues
 unfolding first_broken
 fault_few alike lens arrays rows few =
     ap (λ (b : Bool). option_or (cond b (Some TooFewValues) (cond (not alike) (Some ValueTypes) None)) (selector_fault arrays rows lens)) few
 
-pub fault_types : (alike : Bool) (lens : List ℕ) (arrays rows : Flat) → nat_lt (length lens) 2 ≡ false → alike ≡ false → woven_fault alike lens arrays rows ≡ Some ValueTypes
+pub fault_types : (alike : Bool) (lens : List ℕ) (arrays rows : Flat) → nat_lt (length lens) 2 ≡ false → alike ≡ false → interleaved_fault alike lens arrays rows ≡ Some ValueTypes
 unfolding first_broken
 fault_types alike lens arrays rows few other =
     ap (λ (b : Bool). option_or (cond b (Some TooFewValues) (cond (not alike) (Some ValueTypes) None)) (selector_fault arrays rows lens)) few
     ∙ ap (λ (b : Bool). option_or (cond (not b) (Some ValueTypes) None) (selector_fault arrays rows lens)) other
 
-pub fault_selectors : (alike : Bool) (lens : List ℕ) (arrays rows : Flat) → nat_lt (length lens) 2 ≡ false → alike ≡ true → woven_fault alike lens arrays rows ≡ selector_fault arrays rows lens
+pub fault_selectors : (alike : Bool) (lens : List ℕ) (arrays rows : Flat) → nat_lt (length lens) 2 ≡ false → alike ≡ true → interleaved_fault alike lens arrays rows ≡ selector_fault arrays rows lens
 unfolding first_broken
 fault_selectors alike lens arrays rows few same =
     ap (λ (b : Bool). option_or (cond b (Some TooFewValues) (cond (not alike) (Some ValueTypes) None)) (selector_fault arrays rows lens)) few
     ∙ ap (λ (b : Bool). option_or (cond (not b) (Some ValueTypes) None) (selector_fault arrays rows lens)) same
 
 -- all types are supported where the test says so
-scalars_down : (ts : List DType) → all_scalar ts ≡ true → AllByRecursion (λ t. IsTrue (is_scalar t)) ts
+scalars_down : (ts : List DType) → all_bool_or_integer ts ≡ true → AllByRecursion (λ t. IsTrue (is_bool_or_integer t)) ts
 scalars_down [] e = tt
-scalars_down (t ∷ ts) e = let both = and_parts (is_scalar t) (all_scalar ts) e in (both.0, scalars_down ts both.1)
+scalars_down (t ∷ ts) e = let both = and_parts (is_bool_or_integer t) (all_bool_or_integer ts) e in (both.0, scalars_down ts both.1)
 
-pub all_scalars : (ts : List DType) → all_scalar ts ≡ true → All (λ t. IsTrue (is_scalar t)) ts
-all_scalars ts e = All-from_recursion (λ t. IsTrue (is_scalar t)) ts (scalars_down ts e)
+pub all_scalars : (ts : List DType) → all_bool_or_integer ts ≡ true → All (λ t. IsTrue (is_bool_or_integer t)) ts
+all_scalars ts e = All-from_recursion (λ t. IsTrue (is_bool_or_integer t)) ts (scalars_down ts e)

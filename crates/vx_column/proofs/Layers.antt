@@ -11,7 +11,8 @@ use Rattle.vx_interleave.specs.Selections.{pairs_of}
 use Rattle.vx_search.proofs.Powers.{search_bound_positive}
 use Rattle.vx_base.specs.Column.{Flat}
 use Rattle.vx_rows.specs.declared.dtype.DType.{DType}
-use Rattle.vx_column.specs.Columns.{Rows, type_of, type_step, IsOf, lane_cost, lane_step, lane_reads, lane_entries, is_plain, plain_step, all_true, rows_of, rows_step, joined, excepted, woven, point_cost, point_step, cut_cost, cut_step, greatest, len_of, AreLanes, AreExceptions, AreWoven, IsSound, IsSoundLayer, slots_in}
+use Rattle.vx_column.specs.Columns.{type_of, type_step, IsOf, lane_cost, lane_step, lane_entries, is_plain, plain_step, all_true, rows_of, rows_step, point_cost, point_step, cut_cost, cut_step, len_of, AreLanes, AreExceptions, AreInterleaved, IsSound, IsSoundLayer, slots_in}
+use Rattle.vx_job.specs.Rows.{Rows, lane_reads, joined, excepted, interleaved, greatest}
 use Rattle.vx_column.specs.declared.column.Chunked.{Chunked}
 use Rattle.vx_column.specs.declared.patched.Patched.{Patched}
 use Rattle.vx_column.specs.declared.excepted.Excepted.{Excepted}
@@ -95,7 +96,7 @@ lane_excepted x = ap lane_cost (sym (rolls-Excepted x)) ∙ fold-roll-Column ℕ
 pub plain_excepted : (x : Excepted Column) → is_plain (column.Excepted x) ≡ (is_plain x.base && is_plain x.values)
 plain_excepted x = ap is_plain (sym (rolls-Excepted x)) ∙ fold-roll-Column Bool plain_step (Column-F.Excepted x)
 
-pub rows_interleave : (i : Interleave Column) → rows_of (column.Interleave i) ≡ woven (map rows_of i.values) (pairs_of i.selectors)
+pub rows_interleave : (i : Interleave Column) → rows_of (column.Interleave i) ≡ interleaved (map rows_of i.values) (pairs_of i.selectors)
 rows_interleave i = ap rows_of (sym (rolls-Interleave i)) ∙ fold-roll-Column Rows rows_step (Column-F.Interleave i)
 
 pub type_interleave : (i : Interleave Column) → type_of (column.Interleave i) ≡ i.dtype
@@ -134,8 +135,8 @@ exceptions_here x s = (exceptions_layer x s).0
 pub slots_here : (x : Excepted Column) → IsSound (column.Excepted x) → x.slots ≡ map column.Flat (slots_in x.index)
 slots_here x s = (exceptions_layer x s).1
 
-pub woven_here : (i : Interleave Column) → IsSound (column.Interleave i) → AreWoven i
-woven_here i s = subst IsSoundLayer (outs-Interleave i) (every_here-Column IsSoundLayer (column.Interleave i) s)
+pub interleaved_here : (i : Interleave Column) → IsSound (column.Interleave i) → AreInterleaved i
+interleaved_here i s = subst IsSoundLayer (outs-Interleave i) (every_here-Column IsSoundLayer (column.Interleave i) s)
 
 -- a column with a proof
 abbrev Known : Type 0
@@ -184,8 +185,8 @@ values_held x s =
     let held : AllByRecursion IsSound (x.base ∷ x.values ∷ x.slots) = subst (AllByRecursion IsSound) (ap children_in (outs-Excepted x)) (sound_within (column.Excepted x) s) in
     held.1.0
 
-pub woven_held : (i : Interleave Column) → IsSound (column.Interleave i) → All IsSound i.values
-woven_held i s = All-from_recursion IsSound i.values (subst (AllByRecursion IsSound) (ap children_in (outs-Interleave i)) (sound_within (column.Interleave i) s))
+pub interleaved_held : (i : Interleave Column) → IsSound (column.Interleave i) → All IsSound i.values
+interleaved_held i s = All-from_recursion IsSound i.values (subst (AllByRecursion IsSound) (ap children_in (outs-Interleave i)) (sound_within (column.Interleave i) s))
 
 with_proofs : (xs : List Column) → AllByRecursion IsSound xs → List Known
 with_proofs [] s = []
@@ -221,8 +222,8 @@ excepted_made x h slots b v =
     (Column-F.Excepted record { base = (x.base, b); index = x.index; values = (x.values, v); slots = with_proofs x.slots all })
     (ap (λ xs. Column-F.Excepted record { base = x.base; index = x.index; values = x.values; slots = xs }) (with_proofs_of x.slots all)) (h, slots))
 
-pub woven_made : (i : Interleave Column) → AreWoven i → All IsSound i.values → IsSound (column.Interleave i)
-woven_made i h s =
+pub interleaved_made : (i : Interleave Column) → AreInterleaved i → All IsSound i.values → IsSound (column.Interleave i)
+interleaved_made i h s =
     let all = recursion_from_All IsSound i.values s in
     subst IsSound (rolls-Interleave i) (every_made-Column IsSoundLayer (Column-F.Interleave i)
     (Column-F.Interleave record { dtype = i.dtype; selectors = i.selectors; values = with_proofs i.values all })

@@ -5,7 +5,7 @@ use Rattle.std.proofs.Math.Seq.{take-append-add, drop-append-add}
 use Rattle.std.proofs.lemmas.Bool.Decides.{nat_tests}
 use Rattle.std.specs.List.{slice_range}
 use Rattle.vx_base.specs.Ranges.{ends_cut}
-use Rattle.vx_column.specs.Columns.{greatest}
+use Rattle.vx_job.specs.Rows.{greatest}
 
 -- to cut the front off and then the back is to cut the back off and then the front
 pub sublist_by_take : {A : Type 0} (xs : List A) (start end : ℕ) → start ≤ end → slice_range xs start end ≡ drop start (take end xs)

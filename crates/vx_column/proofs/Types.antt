@@ -9,12 +9,12 @@ use Rattle.vx_rows.specs.declared.kinds.Nullability.{Nullability}
 use Rattle.vx_rows.specs.declared.kinds.Nullability.TheVariants.{NonNullable}
 use Rattle.vx_rows.specs.declared.dtype.DType.{DType, out-DType, out-roll-DType}
 use Rattle.vx_rows.specs.declared.dtype.DType.TheOpen.{DType-F}
-use Rattle.vx_column.specs.Kinds.{AreAlike, woven_type, nullability_by, some_nullable}
+use Rattle.vx_job.specs.Kinds.{AreAlike, interleaved_type, nullability_by, some_nullable}
 use Rattle.vx_column.specs.Columns.{type_of, IsSound}
 use Rattle.vx_column.specs.declared.interleave.Interleave.{Interleave}
 use Rattle.vx_column.specs.declared.column.Column.{Column}
 use Rattle.vx_column.specs.declared.column.Column.TheVariants as column
-use Rattle.vx_column.proofs.Layers.{type_interleave, woven_here}
+use Rattle.vx_column.proofs.Layers.{type_interleave, interleaved_here}
 
 layer_takes : {A B : Type 0} (n : Nullability) (t : DType-F A B) → layer_type_takes_memory (layer_with n t) ≡ layer_type_takes_memory t
 layer_takes n (DType-F.Bool m) = refl
@@ -33,21 +33,21 @@ alike_takes s t e = sym (layer_takes NonNullable (out-DType s)) ∙ ap layer_typ
 with_takes : (t : DType) (n : Nullability) → type_takes_memory (with_nullability t n) ≡ type_takes_memory t
 with_takes t n = ap layer_type_takes_memory (out-roll-DType (layer_with n (out-DType t))) ∙ layer_takes n (out-DType t)
 
--- each type takes memory where the woven one does
-woven_takes : (ts : List DType) (k : ℕ) → AreAlike ts → k < length ts → type_takes_memory (get_or ts k (woven_type ts)) ≡ type_takes_memory (woven_type ts)
-woven_takes [] k a h = absurd (omega arith)
-woven_takes (t ∷ ts) zero a h = sym (with_takes t (nullability_by (some_nullable (t ∷ ts))))
-woven_takes (t ∷ ts) (suc k) a h =
-    alike_takes (get_or ts k (woven_type (t ∷ ts))) t (a k (woven_type (t ∷ ts)) (omega arith)) ∙ sym (with_takes t (nullability_by (some_nullable (t ∷ ts))))
+-- each type takes memory where the interleaved one does
+interleaved_takes : (ts : List DType) (k : ℕ) → AreAlike ts → k < length ts → type_takes_memory (get_or ts k (interleaved_type ts)) ≡ type_takes_memory (interleaved_type ts)
+interleaved_takes [] k a h = absurd (omega arith)
+interleaved_takes (t ∷ ts) zero a h = sym (with_takes t (nullability_by (some_nullable (t ∷ ts))))
+interleaved_takes (t ∷ ts) (suc k) a h =
+    alike_takes (get_or ts k (interleaved_type (t ∷ ts))) t (a k (interleaved_type (t ∷ ts)) (omega arith)) ∙ sym (with_takes t (nullability_by (some_nullable (t ∷ ts))))
 
-pub woven_free : (i : Interleave Column) (k : ℕ) (x : Column) → IsSound (column.Interleave i) → k < length i.values → x ≡ get_or i.values k x →
+pub interleaved_free : (i : Interleave Column) (k : ℕ) (x : Column) → IsSound (column.Interleave i) → k < length i.values → x ≡ get_or i.values k x →
     IsFalse (type_takes_memory (type_of (column.Interleave i))) → IsFalse (type_takes_memory (type_of x))
-woven_free i k x s h e light =
-    let here = woven_here i s in
+interleaved_free i k x s h e light =
+    let here = interleaved_here i s in
     let types = map type_of i.values in
     let inside : k < length types = omega (arith, length-map i.values type_of) in
-    let at_k : get_or types k (woven_type types) ≡ type_of x = get_or-map type_of i.values k x (woven_type types) h ∙ ap type_of (sym e) in
-    ap type_takes_memory (sym at_k) ∙ woven_takes types k here.alike inside ∙ ap type_takes_memory (sym (type_interleave i ∙ here.joined)) ∙ light
+    let at_k : get_or types k (interleaved_type types) ≡ type_of x = get_or-map type_of i.values k x (interleaved_type types) h ∙ ap type_of (sym e) in
+    ap type_takes_memory (sym at_k) ∙ interleaved_takes types k here.alike inside ∙ ap type_takes_memory (sym (type_interleave i ∙ here.joined)) ∙ light
 
 -- the types of columns are like the first's exactly where the columns are of types like it
 pub alike_up : (x : Column) (xs : List Column) → All (λ y. AlikeTypes (type_of y) (type_of x)) xs → AreAlike (map type_of (x ∷ xs))
@@ -57,7 +57,7 @@ pub alike_down : (x : Column) (xs : List Column) → AreAlike (map type_of (x �
 alike_down x xs all k y h =
     subst (λ t. AlikeTypes t (type_of x)) (get_or-map type_of xs k y (type_of y) h) (all k (type_of y) (omega (arith, length-map xs type_of)))
 
--- the woven type of columns of which there is a first
-pub woven_first : (xs : List Column) (x : Column) → 0 < length xs → x ≡ get_or xs 0 x → woven_type (map type_of xs) ≡ with_nullability (type_of x) (nullability_by (some_nullable (map type_of xs)))
-woven_first [] x h e = absurd (omega arith)
-woven_first (y ∷ xs) x h e = ap (λ (c : Column). with_nullability (type_of c) (nullability_by (some_nullable (map type_of (y ∷ xs))))) (sym e)
+-- the interleaved type of columns of which there is a first
+pub interleaved_first : (xs : List Column) (x : Column) → 0 < length xs → x ≡ get_or xs 0 x → interleaved_type (map type_of xs) ≡ with_nullability (type_of x) (nullability_by (some_nullable (map type_of xs)))
+interleaved_first [] x h e = absurd (omega arith)
+interleaved_first (y ∷ xs) x h e = ap (λ (c : Column). with_nullability (type_of c) (nullability_by (some_nullable (map type_of (y ∷ xs))))) (sym e)

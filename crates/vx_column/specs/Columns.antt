@@ -17,45 +17,20 @@ use Rattle.vx_lanes.specs.Layouts.{overlaid, exceptions, chunk_row}
 use Rattle.vx_lanes.specs.declared.layout.Layout.{Layout}
 use Rattle.vx_interleave.specs.Selections.{Selection, pairs_of}
 use Rattle.vx_chunks.specs.Bounds.{total}
+use Rattle.vx_job.specs.Rows.{Rows, joined, excepted, interleaved, greatest, lane_reads}
 use Rattle.vx_column.specs.declared.excepted.Excepted.{Excepted}
 use Rattle.vx_column.specs.declared.patched.Patched.{Patched}
 use Rattle.vx_column.specs.declared.interleave.Interleave.{Interleave}
-use Rattle.vx_column.specs.Kinds.{AreExceptionKinds, AreLaneKinds, AreWovenKinds}
+use Rattle.vx_job.specs.Kinds.{AreExceptionKinds, AreLaneKinds, AreInterleaveKinds}
 use Rattle.vx_column.specs.declared.column.Chunked.{Chunked}
 use Rattle.vx_column.specs.declared.column.Column.{Column}
 use Rattle.vx_column.specs.declared.column.Column.TheOpen.{Column-F}
 use Rattle.vx_column.specs.declared.column.Column.TheVariants.{Flat as flat_column}
 use Rattle.vx_column.specs.declared.column.Column.TheFolds.{fold-Column, every-Column}
 
-abbrev pub Rows : Type 0
-Rows = List (Option Value)
-
--- lists joined in order
-abbrev pub joined : List Rows → Rows
-joined [] = []
-joined (rows ∷ rest) = rows ++ joined rest
-
--- the greatest of the numbers, 0 where there is none
-abbrev pub greatest : List ℕ → ℕ
-greatest [] = 0
-greatest (n ∷ ns) = max n (greatest ns)
-
 abbrev pub all_true : List Bool → Bool
 all_true [] = true
 all_true (b ∷ bs) = b && all_true bs
-
--- the rows from a number on, where a pair of the same number puts its value in a row's place
-abbrev pub rows_below : List (ℕ × Option Value) → ℕ → Rows → Rows
-rows_below pairs number [] = []
-rows_below pairs number (row ∷ rows) = unwrap_or (value_at number pairs) row ∷ rows_below pairs (number + 1) rows
-
--- rows with exceptions in their places, whose values are rows too
-abbrev pub excepted : Index → Rows → Rows → Rows
-excepted index values rows = rows_below (pairs_by index values) 0 rows
-
--- the row that each pair names, by the number of a list and the number of a row in it
-abbrev pub woven : List Rows → List (ℕ × ℕ) → Rows
-woven values pairs = map (λ p. get_or (get_or values p.0 []) p.1 None) pairs
 
 abbrev pub id_step : Column-F (List ℕ) → List ℕ
 id_step (Column-F.Flat c) = codes "vx.flat"
@@ -83,15 +58,11 @@ rows_step (Column-F.Flat c) = c.rows
 rows_step (Column-F.Chunked chunked) = joined chunked.chunks
 rows_step (Column-F.Patched patched) = overlaid patched.lanes patched.inner
 rows_step (Column-F.Excepted e) = excepted e.index e.values e.base
-rows_step (Column-F.Interleave interleave) = woven interleave.values (pairs_of interleave.selectors)
+rows_step (Column-F.Interleave interleave) = interleaved interleave.values (pairs_of interleave.selectors)
 
 -- the rows of a column
 abbrev pub rows_of : Column → Rows
 rows_of = fold-Column Rows rows_step
-
--- two lane offsets, the indices of a lane, and a value, where a chunk has so many lanes
-abbrev pub lane_reads : ℕ → ℕ
-lane_reads n_lanes = 2 + 1024 / n_lanes + 1
 
 abbrev pub point_step : Column-F ℕ → ℕ
 point_step (Column-F.Flat c) = 1
@@ -182,9 +153,9 @@ inner_of array = array.inner
 abbrev pub lanes_of : Patched Column → Layout
 lanes_of array = array.lanes
 
--- the values that a column is woven of, in order, and their selectors
-abbrev pub woven_of : Interleave Column → List Column
-woven_of array = array.values
+-- the values that a column is interleaved of, in order, and their selectors
+abbrev pub interleaved_of : Interleave Column → List Column
+interleaved_of array = array.values
 
 abbrev pub selectors_of : Interleave Column → Selection
 selectors_of array = array.selectors
@@ -209,8 +180,8 @@ abbrev pub AreExceptions : Excepted Column → Type 0
 AreExceptions e = AreExceptionKinds e.index (type_of e.base) (len_of e.base) (type_of e.values) (len_of e.values)
 
 -- each pair names a row of a value
-abbrev pub AreWoven : Interleave Column → Type 0
-AreWoven i = AreWovenKinds i.selectors i.dtype (map type_of i.values) (map len_of i.values)
+abbrev pub AreInterleaved : Interleave Column → Type 0
+AreInterleaved i = AreInterleaveKinds i.selectors i.dtype (map type_of i.values) (map len_of i.values)
 
 -- the boundaries are the running sums of the chunks' lengths, and each chunk is of the declared type; the slots of
 -- exceptions are their places' own rows
@@ -219,7 +190,7 @@ IsSoundLayer (Column-F.Flat c) = Unit {0}
 IsSoundLayer (Column-F.Chunked chunked) = (chunked.boundaries ≡ map len_of chunked.chunks) × All (IsOf chunked.dtype) chunked.chunks
 IsSoundLayer (Column-F.Patched patched) = AreLanes patched
 IsSoundLayer (Column-F.Excepted e) = AreExceptions e × (e.slots ≡ map flat_column (slots_in e.index))
-IsSoundLayer (Column-F.Interleave interleave) = AreWoven interleave
+IsSoundLayer (Column-F.Interleave interleave) = AreInterleaved interleave
 
 -- so is each layer
 abbrev pub IsSound : Column → Type 0

@@ -141,7 +141,7 @@ impl Column {
         ensures err { IfErr result (SliceCause (len_of self.now) range.start range.end) }
         ensures rise { steps.new ≤ steps.old
             + ends_cut range.start range.end (len_of self.now) * cut_cost self.now }
-        ensures kept { steps.old ≤ steps.new }
+        ensures monotone { steps.old ≤ steps.new }
     {
         let Range { start, end } = range;
         if start > end {
@@ -170,7 +170,7 @@ impl Column {
         ensures same { IfOk result (λ part. IsWhole self.now start end → part ≡ self.now) }
         ensures err { IsOkUnless result ColumnError.OutOfMemory }
         ensures rise { steps.new ≤ steps.old + ends_cut start end (len_of self.now) * cut_cost self.now }
-        ensures kept { steps.old ≤ steps.new }
+        ensures monotone { steps.old ≤ steps.new }
     {
         match self {
             Column::Flat(rows) => {
@@ -195,7 +195,7 @@ impl Column {
         ensures err { IsOkUnless result ColumnError.OutOfMemory }
         ensures free { IsFalse (type_takes_memory (type_of self.now)) → IsOk result }
         ensures rise { steps.new ≤ steps.old + point_cost self.now }
-        ensures kept { steps.old ≤ steps.new }
+        ensures monotone { steps.old ≤ steps.new }
     {
         match self {
             Column::Flat(rows) => rows.row_at(alloc, at, steps),
@@ -213,7 +213,7 @@ impl Column {
         requires inside { at < len_of self.now }
         ensures value { result ≡ is_some (get_or (rows_of self.now) at None) }
         ensures rise { steps.new ≤ steps.old + point_cost self.now }
-        ensures kept { steps.old ≤ steps.new }
+        ensures monotone { steps.old ≤ steps.new }
     {
         match self {
             Column::Flat(rows) => rows.is_valid_at(at, steps),
@@ -266,7 +266,7 @@ impl Column {
         ensures err { IsOkUnless result ColumnError.OutOfMemory }
         ensures left { OnErr result (out.new ≡ out.old) }
         ensures rise { steps.new ≤ steps.old + select_bound self.now (len_of self.now) }
-        ensures kept { steps.old ≤ steps.new }
+        ensures monotone { steps.old ≤ steps.new }
     {
         let mut rows = Seq::new(alloc);
         self.append_rows(alloc, &mut rows, steps)?;
@@ -286,7 +286,7 @@ impl Column {
         ensures ok { OnOk result (out.new ≡ out.old ++ rows_of self.now) }
         ensures err { IsOkUnless result ColumnError.OutOfMemory }
         ensures rise { steps.new ≤ steps.old + select_bound self.now (len_of self.now) }
-        ensures kept { steps.old ≤ steps.new }
+        ensures monotone { steps.old ≤ steps.new }
     {
         match self {
             Column::Flat(rows) => rows.copy_into(alloc, 0..rows.len(), out, steps),
@@ -307,7 +307,7 @@ impl Column {
         ensures ok { OnOk result (out.new ≡ out.old ++ rows_of self.now) }
         ensures err { IsOkUnless result ColumnError.OutOfMemory }
         ensures rise { steps.new ≤ steps.old + len_of self.now * point_cost self.now }
-        ensures kept { steps.old ≤ steps.new }
+        ensures monotone { steps.old ≤ steps.new }
     {
         for at in 0..self.len() {
             out.push(self.row(alloc, at, steps)?)?;
@@ -384,7 +384,7 @@ impl Chunked<Column> {
     {
         let dtype = self.dtype.copy()?;
         let boundaries = self.boundaries.share()?;
-        let chunks = self.chunks.copy()?;
+        let chunks = self.chunks.share()?;
         Ok(Chunked {
             dtype,
             boundaries,
@@ -412,7 +412,7 @@ impl Chunked<Column> {
         ensures err { IsOkUnless result ColumnError.OutOfMemory }
         ensures rise { steps.new ≤ steps.old
             + ends_cut start end (len_of (chunked_column self.now)) * cut_cost (chunked_column self.now) }
-        ensures kept { steps.old ≤ steps.new }
+        ensures monotone { steps.old ≤ steps.new }
     {
         let plan = self.plan_slice(start, end, steps);
         let chunks = self.children();
@@ -444,7 +444,7 @@ impl Chunked<Column> {
         ensures plan { IsPlanOf (map len_of (chunks_of self.now)) start end result }
         ensures rise { steps.new ≤ steps.old + ends_cut start end (len_of (chunked_column self.now))
             * search_bound (length (chunks_of self.now) + 1) }
-        ensures kept { steps.old ≤ steps.new }
+        ensures monotone { steps.old ≤ steps.new }
     {
         self.boundaries().plan_slice(start..end, steps)
     }
@@ -545,7 +545,7 @@ impl Chunked<Column> {
         ensures last { index ≡ len_of (chunked_column self.now) → (result.0 ≡ length (chunks_of self.now) - 1)
             × (result.1 ≡ slice_index (map len_of (chunks_of self.now)) result.0) }
         ensures rise { steps.new ≤ steps.old + search_bound (length (chunks_of self.now) + 1) }
-        ensures kept { steps.old ≤ steps.new }
+        ensures monotone { steps.old ≤ steps.new }
     {
         self.boundaries().find_chunk_idx(index, steps)
     }
@@ -558,7 +558,7 @@ impl Chunked<Column> {
         ensures err { IsOkUnless result ColumnError.OutOfMemory }
         ensures free { IsFalse (type_takes_memory (type_of (chunked_column self.now))) → IsOk result }
         ensures rise { steps.new ≤ steps.old + point_cost (chunked_column self.now) }
-        ensures kept { steps.old ≤ steps.new }
+        ensures monotone { steps.old ≤ steps.new }
     {
         let (chunk, place) = self.find_chunk_idx(at, steps);
         let chunks = self.children();
@@ -571,7 +571,7 @@ impl Chunked<Column> {
         requires inside { at < len_of (chunked_column self.now) }
         ensures value { result ≡ is_some (get_or (rows_of (chunked_column self.now)) at None) }
         ensures rise { steps.new ≤ steps.old + point_cost (chunked_column self.now) }
-        ensures kept { steps.old ≤ steps.new }
+        ensures monotone { steps.old ≤ steps.new }
     {
         let (chunk, place) = self.find_chunk_idx(at, steps);
         let chunks = self.children();
@@ -591,7 +591,7 @@ impl Chunked<Column> {
         ensures err { IsOkUnless result ColumnError.OutOfMemory }
         ensures rise { steps.new ≤ steps.old
             + select_bound (chunked_column self.now) (len_of (chunked_column self.now)) }
-        ensures kept { steps.old ≤ steps.new }
+        ensures monotone { steps.old ≤ steps.new }
     {
         for chunk in self.children() {
             chunk.append_rows(alloc, out, steps)?;

@@ -9,14 +9,14 @@ ghost use Rattle.vx_patches.specs.Making.{made};
 ghost use Rattle.vx_patches.specs.Places.{indices_of, IsIndex};
 ghost use Rattle.vx_patches.specs.Search.{search_cost};
 ghost use Rattle.vx_patches.specs.Slices.{cut_cost as places_cut_cost};
-ghost use Rattle.vx_column.specs.Kinds.{is_scalar, may_be_nothing, AreExceptionKinds};
+ghost use Rattle.vx_job.specs.Kinds.{is_bool_or_integer, is_nullable, AreExceptionKinds};
 ghost use Rattle.vx_column.specs.Excepts.{StandsAt, IsKeptOf};
-ghost use Rattle.vx_column.specs.Faults.{IsExceptionsFault, MadeCause};
+ghost use Rattle.vx_job.specs.Faults.{IsExceptionsFault, MadeCause};
 ghost use Rattle.vx_column.specs.Columns.{IsSound, IsSliceOf, IsWhole, type_of, rows_of, len_of, point_cost, cut_cost, base_of, values_of, index_of, slots_in};
 ghost use Rattle.vx_column.specs.declared.column.Column.TheVariants.{Excepted as excepted_column, Flat as flat_column};
 
 use crate::column::Column;
-use crate::kinds::{is_scalar, malformed, unsupported, value_fault};
+use crate::kinds::{is_bool_or_integer, malformed, unsupported, value_fault};
 use std::alloc::Global;
 use std::ops::Range;
 use vx_base::{ColumnError, DType, FlatColumn, Ledger, Res, Row, Seq, Shared, Steps};
@@ -67,7 +67,7 @@ impl Excepted<Column> {
         ensures err { IfErr result (MadeCause
             (IsExceptionsFault (type_of base) (len_of base) offset indices (type_of values) (len_of values) chunk_offsets)) }
     {
-        if !is_scalar(base.dtype()) {
+        if !is_bool_or_integer(base.dtype()) {
             return Err(unsupported(alloc));
         }
         let alike = values.dtype().eq_ignore_nullability(base.dtype());
@@ -105,10 +105,10 @@ impl Excepted<Column> {
         ensures ok { IfOk result (λ other. other ≡ self.now) }
         ensures err { IsOkUnless result ColumnError.OutOfMemory }
     {
-        let base = self.base.copy()?;
+        let base = self.base.share()?;
         let index = self.index.share()?;
-        let values = self.values.copy()?;
-        let slots = self.slots.copy()?;
+        let values = self.values.share()?;
+        let slots = self.slots.share()?;
         Ok(Excepted {
             base,
             index,
@@ -219,7 +219,7 @@ impl Excepted<Column> {
         ensures err { IsOkUnless result ColumnError.OutOfMemory }
         ensures rise { steps.new ≤ steps.old
             + ends_cut start end (len_of (excepted_column self.now)) * cut_cost (excepted_column self.now) }
-        ensures kept { steps.old ≤ steps.new }
+        ensures monotone { steps.old ≤ steps.new }
     {
         if self.is_whole(start, end) {
             let same = self.share()?;
@@ -257,7 +257,7 @@ impl Excepted<Column> {
         ensures err { IsOkUnless result ColumnError.OutOfMemory }
         ensures rise { steps.new ≤ steps.old
             + ends_cut start end (len_of (excepted_column self.now)) * places_cut_cost (index_of self.now) }
-        ensures kept { steps.old ≤ steps.new }
+        ensures monotone { steps.old ≤ steps.new }
     {
         self.index().slice(start..end, steps)
     }
@@ -268,7 +268,7 @@ impl Excepted<Column> {
         requires inside { at < len_of (excepted_column self.now) }
         ensures place { StandsAt self.now at result }
         ensures rise { steps.new ≤ steps.old + search_cost (index_of self.now) }
-        ensures kept { steps.old ≤ steps.new }
+        ensures monotone { steps.old ≤ steps.new }
     {
         match self.index().search_index(at, steps) {
             SearchResult::Found(place) => Some(place),
@@ -284,7 +284,7 @@ impl Excepted<Column> {
         ensures err { IsOkUnless result ColumnError.OutOfMemory }
         ensures free { IsFalse (type_takes_memory (type_of (excepted_column self.now))) → IsOk result }
         ensures rise { steps.new ≤ steps.old + point_cost (excepted_column self.now) }
-        ensures kept { steps.old ≤ steps.new }
+        ensures monotone { steps.old ≤ steps.new }
     {
         match self.place_of(at, steps) {
             Some(place) => self.values().row(alloc, place, steps),
@@ -298,7 +298,7 @@ impl Excepted<Column> {
         requires inside { at < len_of (excepted_column self.now) }
         ensures value { result ≡ is_some (get_or (rows_of (excepted_column self.now)) at None) }
         ensures rise { steps.new ≤ steps.old + point_cost (excepted_column self.now) }
-        ensures kept { steps.old ≤ steps.new }
+        ensures monotone { steps.old ≤ steps.new }
     {
         match self.place_of(at, steps) {
             Some(place) => self.values().is_valid(place, steps),

@@ -1,15 +1,15 @@
-//! A column woven of the rows of several values.
+//! A column interleaved of the rows of several values.
 ghost use Rattle.std.specs.Prelude.{◌≡◌, ◌+◌, [], ◌^◌, ◌-◌, ◌<◌, ◌≤◌, ◌↔◌, length, map, min, get_or, slice_get, Some, None, is_some};
 ghost use Rattle.std.specs.Prelude.{IfOk, OnOk, IfErr, IsOk, IsOkUnless, IsTrue, IsFalse, All};
 ghost use Rattle.vx_rows.specs.Sizes.{type_takes_memory};
 ghost use Rattle.vx_interleave.specs.Selections.{selection};
-ghost use Rattle.vx_column.specs.Kinds.{AreWovenKinds};
-ghost use Rattle.vx_column.specs.Faults.{IsWovenFault, MadeCause};
-ghost use Rattle.vx_column.specs.Columns.{IsSound, IsSliceOf, IsWhole, type_of, rows_of, len_of, point_cost, woven_of, selectors_of};
+ghost use Rattle.vx_job.specs.Kinds.{AreInterleaveKinds};
+ghost use Rattle.vx_job.specs.Faults.{IsInterleaveFault, MadeCause};
+ghost use Rattle.vx_column.specs.Columns.{IsSound, IsSliceOf, IsWhole, type_of, rows_of, len_of, point_cost, interleaved_of, selectors_of};
 ghost use Rattle.vx_column.specs.declared.column.Column.TheVariants.{Interleave as interleave_column};
 
 use crate::column::Column;
-use crate::kinds::{are_alike, are_scalar, lens_of, malformed, unsupported, woven_type};
+use crate::kinds::{are_alike, are_bools_or_integers, lens_of, malformed, unsupported, interleaved_type};
 use std::alloc::Global;
 use vx_base::{ColumnError, DType, FlatColumn, Ledger, Res, Row, Rule, Seq, Shared, Steps};
 use vx_interleave::Selectors;
@@ -31,10 +31,10 @@ impl<C: Drop> Drop for Interleave<C> {
     }
 }
 
-/// A column woven of values that are columns.
+/// A column interleaved of values that are columns.
 pub type InterleaveArray = Interleave<Column>;
 
-/// The woven type and the selectors of these values, where no rule is broken.
+/// The interleaved type and the selectors of these values, where no rule is broken.
 fn checked(
     alloc: Global,
     values: &[Column],
@@ -43,13 +43,13 @@ fn checked(
 ) -> Res<(DType, Selectors)>
     requires { All IsSound values.now }
     ensures selectors { IfOk result (λ p. p.1 ≡ selection array_indices row_indices) }
-    ensures kinds { IfOk result (λ p. AreWovenKinds p.1 p.0 (map type_of values.now) (map len_of values.now)) }
-    ensures clean { OnOk result (IsWovenFault (map type_of values.now) (map len_of values.now) array_indices row_indices None) }
+    ensures kinds { IfOk result (λ p. AreInterleaveKinds p.1 p.0 (map type_of values.now) (map len_of values.now)) }
+    ensures clean { OnOk result (IsInterleaveFault (map type_of values.now) (map len_of values.now) array_indices row_indices None) }
     ensures err { IfErr result (MadeCause
-        (IsWovenFault (map type_of values.now) (map len_of values.now) array_indices row_indices)) }
+        (IsInterleaveFault (map type_of values.now) (map len_of values.now) array_indices row_indices)) }
 {
     let alike = are_alike(values);
-    if !are_scalar(values) {
+    if !are_bools_or_integers(values) {
         return Err(unsupported(alloc));
     }
     if values.len() < 2 {
@@ -60,7 +60,7 @@ fn checked(
     }
     let lens = lens_of(alloc, values)?;
     let selectors = Selectors::try_new(alloc, array_indices, row_indices, lens.as_slice())?;
-    let dtype = woven_type(values)?;
+    let dtype = interleaved_type(values)?;
     Ok((dtype, selectors))
 }
 
@@ -74,12 +74,12 @@ impl Interleave<Column> {
         row_indices: FlatColumn,
     ) -> Res<InterleaveArray>
         requires { All IsSound values.items }
-        ensures values { IfOk result (λ array. woven_of array ≡ values.items) }
+        ensures values { IfOk result (λ array. interleaved_of array ≡ values.items) }
         ensures selectors { IfOk result (λ array. selectors_of array ≡ selection array_indices row_indices) }
         ensures sound { IfOk result (λ array. IsSound (interleave_column array)) }
-        ensures clean { OnOk result (IsWovenFault (map type_of values.items) (map len_of values.items) array_indices row_indices None) }
+        ensures clean { OnOk result (IsInterleaveFault (map type_of values.items) (map len_of values.items) array_indices row_indices None) }
         ensures err { IfErr result (MadeCause
-            (IsWovenFault (map type_of values.items) (map len_of values.items) array_indices row_indices)) }
+            (IsInterleaveFault (map type_of values.items) (map len_of values.items) array_indices row_indices)) }
     {
         let (dtype, selectors) = checked(alloc, values.as_slice(), array_indices, row_indices)?;
         Interleave::of(alloc, dtype, selectors, values)
@@ -92,8 +92,8 @@ impl Interleave<Column> {
         values: Vec<Column>,
     ) -> Res<InterleaveArray>
         requires sound { All IsSound values.items }
-        requires kinds { AreWovenKinds selectors dtype (map type_of values.items) (map len_of values.items) }
-        ensures values { IfOk result (λ array. woven_of array ≡ values.items) }
+        requires kinds { AreInterleaveKinds selectors dtype (map type_of values.items) (map len_of values.items) }
+        ensures values { IfOk result (λ array. interleaved_of array ≡ values.items) }
         ensures selectors { IfOk result (λ array. selectors_of array ≡ selectors) }
         ensures sound { IfOk result (λ array. IsSound (interleave_column array)) }
         ensures err { IsOkUnless result ColumnError.OutOfMemory }
@@ -113,7 +113,7 @@ impl Interleave<Column> {
     {
         let dtype = self.dtype.copy()?;
         let selectors = self.selectors.share()?;
-        let values = self.values.copy()?;
+        let values = self.values.share()?;
         Ok(Interleave {
             dtype,
             selectors,
@@ -123,7 +123,7 @@ impl Interleave<Column> {
 
     /// The number of values.
     pub fn num_values(&self) -> usize
-        ensures { result ≡ length (woven_of self.now) }
+        ensures { result ≡ length (interleaved_of self.now) }
     {
         self.values.get().len()
     }
@@ -131,8 +131,8 @@ impl Interleave<Column> {
     /// A value.
     pub fn value(&self, idx: usize) -> &Column
         requires sound { IsSound (interleave_column self.now) }
-        requires inside { idx < length (woven_of self.now) }
-        ensures value { slice_get (woven_of self.now) idx ≡ Some result.now }
+        requires inside { idx < length (interleaved_of self.now) }
+        ensures value { slice_get (interleaved_of self.now) idx ≡ Some result.now }
         ensures sound { IsSound result.now }
     {
         &self.children()[idx]
@@ -170,7 +170,7 @@ impl Interleave<Column> {
     /// The values in order.
     fn children(&self) -> &[Column]
         requires { IsSound (interleave_column self.now) }
-        ensures value { result.now ≡ woven_of self.now }
+        ensures value { result.now ≡ interleaved_of self.now }
         ensures sound { All IsSound result.now }
     {
         self.values.get().as_slice()
@@ -188,7 +188,7 @@ impl Interleave<Column> {
     {
         let dtype = self.dtype.copy()?;
         let selectors = self.selectors.window(start..end)?;
-        let values = self.values.copy()?;
+        let values = self.values.share()?;
         Ok(Column::Interleave(Interleave {
             dtype,
             selectors,
@@ -204,7 +204,7 @@ impl Interleave<Column> {
         ensures err { IsOkUnless result ColumnError.OutOfMemory }
         ensures free { IsFalse (type_takes_memory (type_of (interleave_column self.now))) → IsOk result }
         ensures rise { steps.new ≤ steps.old + point_cost (interleave_column self.now) }
-        ensures kept { steps.old ≤ steps.new }
+        ensures monotone { steps.old ≤ steps.new }
     {
         let (value, row) = self.named(at, steps);
         let values = self.children();
@@ -217,7 +217,7 @@ impl Interleave<Column> {
         requires inside { at < len_of (interleave_column self.now) }
         ensures value { result ≡ is_some (get_or (rows_of (interleave_column self.now)) at None) }
         ensures rise { steps.new ≤ steps.old + point_cost (interleave_column self.now) }
-        ensures kept { steps.old ≤ steps.new }
+        ensures monotone { steps.old ≤ steps.new }
     {
         let (value, row) = self.named(at, steps);
         let values = self.children();
@@ -228,10 +228,10 @@ impl Interleave<Column> {
     fn named<L: Ledger>(&self, at: usize, steps: &mut Steps<L>) -> (usize, usize)
         requires sound { IsSound (interleave_column self.now) }
         requires inside { at < len_of (interleave_column self.now) }
-        ensures value { result.0 < length (woven_of self.now) }
-        ensures inside { result.1 < get_or (map len_of (woven_of self.now)) result.0 0 }
+        ensures value { result.0 < length (interleaved_of self.now) }
+        ensures inside { result.1 < get_or (map len_of (interleaved_of self.now)) result.0 0 }
         ensures row { get_or (rows_of (interleave_column self.now)) at None
-            ≡ get_or (get_or (map rows_of (woven_of self.now)) result.0 []) result.1 None }
+            ≡ get_or (get_or (map rows_of (interleaved_of self.now)) result.0 []) result.1 None }
         ensures cost { steps.new ≡ steps.old + 2 }
     {
         self.selectors.pair_at(at, steps)

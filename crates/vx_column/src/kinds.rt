@@ -4,8 +4,8 @@ ghost use Rattle.vx_rows.specs.declared.error.ColumnError.TheVariants.{Malformed
 ghost use Rattle.vx_rows.specs.Types.{AlikeTypes};
 ghost use Rattle.vx_base.specs.Numbers as numbers;
 ghost use Rattle.vx_base.specs.Rules.{first_broken};
-ghost use Rattle.vx_column.specs.Kinds as kinds;
-ghost use Rattle.vx_column.specs.Faults.{value_rules, all_scalar};
+ghost use Rattle.vx_job.specs.Kinds as kinds;
+ghost use Rattle.vx_job.specs.Faults.{value_rules, all_bool_or_integer};
 ghost use Rattle.vx_column.specs.Columns.{IsSound, type_of, len_of};
 
 use crate::column::Column;
@@ -40,24 +40,24 @@ pub(crate) fn is_integer(dtype: &DType) -> bool
 }
 
 /// Whether the type is of booleans or integers.
-pub(crate) fn is_scalar(dtype: &DType) -> bool
-    ensures { result ≡ kinds.is_scalar dtype.now }
+pub(crate) fn is_bool_or_integer(dtype: &DType) -> bool
+    ensures { result ≡ kinds.is_bool_or_integer dtype.now }
 {
     matches!(dtype, DType::Bool(_) | DType::Primitive(_, _))
 }
 
-fn may_be_nothing(dtype: &DType) -> bool
-    ensures { result ≡ kinds.may_be_nothing dtype.now }
+fn is_nullable(dtype: &DType) -> bool
+    ensures { result ≡ kinds.is_nullable dtype.now }
 {
     dtype.nullability().is_nullable()
 }
 
 /// Whether each column is of booleans or integers.
-pub(crate) fn are_scalar(columns: &[Column]) -> bool
-    ensures { result ≡ all_scalar (map type_of columns.now) }
+pub(crate) fn are_bools_or_integers(columns: &[Column]) -> bool
+    ensures { result ≡ all_bool_or_integer (map type_of columns.now) }
 {
     for column in columns {
-        if !is_scalar(column.dtype()) {
+        if !is_bool_or_integer(column.dtype()) {
             return false;
         }
     }
@@ -87,9 +87,9 @@ fn all_alike(columns: &[Column], dtype: &DType) -> bool
 }
 
 /// The first column's type, nullable where any column's is.
-pub(crate) fn woven_type(columns: &[Column]) -> Res<DType>
+pub(crate) fn interleaved_type(columns: &[Column]) -> Res<DType>
     requires { 0 < length columns.now }
-    ensures ok { IfOk result (λ dtype. dtype ≡ kinds.woven_type (map type_of columns.now)) }
+    ensures ok { IfOk result (λ dtype. dtype ≡ kinds.interleaved_type (map type_of columns.now)) }
     ensures err { IsOkUnless result ColumnError.OutOfMemory }
 {
     let dtype = columns[0].dtype().copy()?;
@@ -100,7 +100,7 @@ fn some_nullability(columns: &[Column]) -> Nullability
     ensures { result ≡ kinds.nullability_by (kinds.some_nullable (map type_of columns.now)) }
 {
     for column in columns {
-        if may_be_nothing(column.dtype()) {
+        if is_nullable(column.dtype()) {
             return Nullability::Nullable;
         }
     }
@@ -137,7 +137,7 @@ pub(crate) fn value_fault(
     if !alike {
         return Some(Rule::ValueType);
     }
-    if may_be_nothing(values.dtype()) && !may_be_nothing(base.dtype()) {
+    if is_nullable(values.dtype()) && !is_nullable(base.dtype()) {
         return Some(Rule::ValueNullable);
     }
     None

@@ -4,10 +4,11 @@ ghost use Rattle.std.specs.Prelude.{IfOk, OnOk, IfErr, IsOk, IsOkUnless, IsTrue,
 ghost use Rattle.vx_rows.specs.Sizes.{type_takes_memory};
 ghost use Rattle.vx_base.specs.Ranges.{ends_cut};
 ghost use Rattle.vx_lanes.specs.Layouts.{IsLayout, layout, chunks_of, lane_start};
-ghost use Rattle.vx_column.specs.Kinds.{AreLaneKinds};
-ghost use Rattle.vx_column.specs.Faults.{IsLanesFault, MadeCause};
+ghost use Rattle.vx_job.specs.Kinds.{AreLaneKinds};
+ghost use Rattle.vx_job.specs.Faults.{IsLanesFault, MadeCause};
 ghost use Rattle.vx_column.specs.Columns.{IsSound, IsSliceOf, IsWhole, type_of, rows_of, len_of, point_cost, cut_cost};
-ghost use Rattle.vx_column.specs.Columns.{inner_of, lanes_of, lane_reads, first_covered, end_covered, select_bound};
+ghost use Rattle.vx_column.specs.Columns.{inner_of, lanes_of, first_covered, end_covered, select_bound};
+ghost use Rattle.vx_job.specs.Rows.{lane_reads};
 ghost use Rattle.vx_column.specs.declared.column.Column.TheVariants.{Patched as patched_column};
 
 use crate::column::Column;
@@ -55,7 +56,7 @@ impl Patched<Column> {
         ensures err { IfErr result (MadeCause
             (IsLanesFault (type_of inner) (len_of inner) n_lanes offset lane_offsets indices values)) }
         ensures rise { steps.new ≤ steps.old + length lane_offsets.rows + length indices.rows }
-        ensures kept { steps.old ≤ steps.new }
+        ensures monotone { steps.old ≤ steps.new }
     {
         if !is_integer(inner.dtype()) {
             return Err(unsupported(alloc));
@@ -92,7 +93,7 @@ impl Patched<Column> {
         ensures ok { IfOk result (λ other. other ≡ self.now) }
         ensures err { IsOkUnless result ColumnError.OutOfMemory }
     {
-        let inner = self.inner.copy()?;
+        let inner = self.inner.share()?;
         let lanes = self.lanes.share()?;
         Ok(Patched { inner, lanes })
     }
@@ -191,7 +192,7 @@ impl Patched<Column> {
             (first_covered (lanes_of self.now) chunks.start chunks.end) (end_covered (lanes_of self.now) chunks.start chunks.end)) }
         ensures err { IsOkUnless result ColumnError.OutOfMemory }
         ensures rise { steps.new ≤ steps.old + 2 * cut_cost (patched_column self.now) }
-        ensures kept { steps.old ≤ steps.new }
+        ensures monotone { steps.old ≤ steps.new }
     {
         let (lanes, rows) = self.lanes().slice_chunks(chunks)?;
         let inner = self.inner().slice(alloc, rows, steps)?;
@@ -219,7 +220,7 @@ impl Patched<Column> {
         ensures err { IsOkUnless result ColumnError.OutOfMemory }
         ensures rise { steps.new ≤ steps.old
             + ends_cut start end (len_of (patched_column self.now)) * cut_cost (patched_column self.now) }
-        ensures kept { steps.old ≤ steps.new }
+        ensures monotone { steps.old ≤ steps.new }
     {
         if self.is_whole(start, end) {
             let same = self.share()?;
@@ -247,7 +248,7 @@ impl Patched<Column> {
         ensures err { IsOkUnless result ColumnError.OutOfMemory }
         ensures free { IsFalse (type_takes_memory (type_of (patched_column self.now))) → IsOk result }
         ensures rise { steps.new ≤ steps.old + point_cost (patched_column self.now) }
-        ensures kept { steps.old ≤ steps.new }
+        ensures monotone { steps.old ≤ steps.new }
     {
         let row = self.inner().row(alloc, at, steps)?;
         self.replaced(alloc, at, row, steps)
@@ -268,7 +269,7 @@ impl Patched<Column> {
         ensures err { IsOkUnless result ColumnError.OutOfMemory }
         ensures free { IsOk result }
         ensures rise { steps.new ≤ steps.old + lane_reads (lanes_of self.now).n_lanes }
-        ensures kept { steps.old ≤ steps.new }
+        ensures monotone { steps.old ≤ steps.new }
     {
         if row.is_none() {
             return Ok(row);
@@ -286,7 +287,7 @@ impl Patched<Column> {
         requires inside { at < len_of (patched_column self.now) }
         ensures value { result ≡ is_some (get_or (rows_of (patched_column self.now)) at None) }
         ensures rise { steps.new ≤ steps.old + point_cost (patched_column self.now) }
-        ensures kept { steps.old ≤ steps.new }
+        ensures monotone { steps.old ≤ steps.new }
     {
         self.inner().is_valid(at, steps)
     }
@@ -320,7 +321,7 @@ impl Patched<Column> {
         ensures ok { OnOk result (out.new ≡ out.old ++ rows_of (patched_column self.now)) }
         ensures err { IsOkUnless result ColumnError.OutOfMemory }
         ensures rise { steps.new ≤ steps.old + select_bound (patched_column self.now) (len_of (patched_column self.now)) }
-        ensures kept { steps.old ≤ steps.new }
+        ensures monotone { steps.old ≤ steps.new }
     {
         let mut rows = Seq::new(alloc);
         self.inner().append_rows(alloc, &mut rows, steps)?;

@@ -49,7 +49,7 @@ impl<'a> ArrayProbe<'a> {
         ensures free { IsFalse (type_takes_memory (type_of (probed self.old))) →
             index < len_of (probed self.old) → IsOk result }
         ensures rise { steps.new ≤ steps.old + point_cost (probed self.old) }
-        ensures kept { steps.old ≤ steps.new }
+        ensures monotone { steps.old ≤ steps.new }
     {
         match self {
             ArrayProbe::Once(column) => {
@@ -75,7 +75,7 @@ impl<'a> ArrayProbe<'a> {
         ensures inside { OnOk result (index < len_of (probed self.old)) }
         ensures err { IfErr result (BeyondCause (len_of (probed self.old)) index) }
         ensures rise { steps.new ≤ steps.old + point_cost (probed self.old) }
-        ensures kept { steps.old ≤ steps.new }
+        ensures monotone { steps.old ≤ steps.new }
     {
         match self {
             ArrayProbe::Once(column) => {
@@ -101,7 +101,7 @@ impl<'a> ArrayProbe<'a> {
         ensures inside { OnOk result (index < len_of (probed self.old)) }
         ensures err { IfErr result (BeyondCause (len_of (probed self.old)) index) }
         ensures rise { steps.new ≤ steps.old + point_cost (probed self.old) }
-        ensures kept { steps.old ≤ steps.new }
+        ensures monotone { steps.old ≤ steps.new }
     {
         Ok(!self.execute_is_valid(alloc, index, steps)?)
     }

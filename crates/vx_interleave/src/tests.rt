@@ -23,7 +23,7 @@ fn numbers(alloc: Global, numbers: &[u8]) -> Res<FlatColumn> {
 }
 
 /// Four rows of a value of two rows and one of a single row.
-fn woven(alloc: Global) -> Res<Selectors> {
+fn interleaved(alloc: Global) -> Res<Selectors> {
     let arrays = numbers(alloc, &[0, 1, 0, 0])?;
     let rows = numbers(alloc, &[1, 0, 0, 1])?;
     Selectors::try_new(alloc, arrays, rows, &[2, 1])

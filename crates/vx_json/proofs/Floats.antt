@@ -13,9 +13,9 @@ use Rattle.vx_rows.specs.declared.value.Value.TheShapes.{former-Value-List-0-at-
 use Rattle.vx_rows.specs.declared.dtype.DType.{DType, DType-F, roll-DType, map-DType, fold-roll-DType}
 use Rattle.vx_rows.specs.declared.dtype.DType.TheFolds.{ind-DType}
 use Rattle.vx_rows.specs.declared.dtype.Fields.{Fields, Fields-F, roll-Fields, map-Fields, fold-roll-Fields}
-use Rattle.vx_plan.specs.Shown.{Shown}
-use Rattle.vx_plan.specs.declared.page.Answer.{Answer}
-use Rattle.vx_plan.specs.declared.page.Answer.TheVariants.{Rows}
+use Rattle.vx_job.specs.PageView.{PageView}
+use Rattle.vx_job.specs.declared.page.Answer.{Answer}
+use Rattle.vx_job.specs.declared.page.Answer.TheVariants.{Rows}
 use Rattle.vx_rows.specs.declared.error.ColumnError.{ColumnError}
 use Rattle.vx_rows.specs.declared.error.ColumnError.TheVariants as refused
 use Rattle.vx_rows.specs.declared.error.WireFault.{WireFault}
@@ -135,7 +135,7 @@ type_plain = ind-DType IsPlainType IsPlainFields
 answer_plain : (a : Answer) → has_float (answer_json a) ≡ false
 answer_plain (Rows rows) = or_false _ _ (rows_plain rows) refl
 
-pub page_plain : (p : Shown) → has_float (page_json p) ≡ false
+pub page_plain : (p : PageView) → has_float (page_json p) ≡ false
 page_plain p =
     or_false _ _ (list_plain answer_json answer_plain p.answers)
     (or_false _ _ (rows_plain p.rows) (or_false _ _ (type_plain p.dtype) refl))

@@ -3,17 +3,18 @@ use Rattle.std.specs.Prelude.{◌≡◌, ℕ, List, [], ◌∷◌, ◌++◌, Som
 use Rattle.serde_json.specs.Data.{Data}
 use Rattle.serde_json.specs.Read.{read}
 use Rattle.serde_json.specs.Written.{compact_text}
-use Rattle.vx_json.specs.Job.{Asked, job_of}
+use Rattle.vx_job.specs.JobView.{JobView}
+use Rattle.vx_json.specs.Job.{job_of}
 
 -- the bytes are text, the text is JSON, and the JSON is a job that asks this
-pub record IsJobOf (bytes : List ℕ) (a : Asked) : Type 0 where
+pub record IsJobOf (bytes : List ℕ) (a : JobView) : Type 0 where
   pub utf8 : IsUtf8 bytes
   pub json : Data
   pub reads : read bytes ≡ Some json
   pub job : job_of json ≡ Some a
 
 abbrev pub HasNoJob : List ℕ → Type 0
-HasNoJob bytes = (a : Asked) → IsJobOf bytes a → ⊥
+HasNoJob bytes = (a : JobView) → IsJobOf bytes a → ⊥
 
 -- the compact text, and a line feed
 abbrev pub line : Data → List ℕ

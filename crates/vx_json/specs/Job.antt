@@ -1,24 +1,14 @@
--- What a job asks, and the JSON that it is.
-use Rattle.std.specs.Prelude.{List, codes, Option, Some}
+-- The JSON that a job is.
+use Rattle.std.specs.Prelude.{codes, Option, Some}
 use Rattle.serde_json.specs.Data.{Data}
 use Rattle.serde_json.specs.Find.{get}
-use Rattle.vx_plan.specs.declared.part.Part.{Part}
-use Rattle.vx_plan.specs.declared.step.Step.{Step}
-use Rattle.vx_json.specs.declared.job.Job.{Job}
+use Rattle.vx_job.specs.JobView.{JobView}
 use Rattle.vx_json.specs.Forms.{◌>>=◌, object_of, list_of}
 use Rattle.vx_json.specs.Parts.{part_at}
 use Rattle.vx_json.specs.Steps.{step_of}
 
--- parts, and the plan for the column that they are
-pub record Asked : Type 0 where
-  pub parts : List Part
-  pub plan : List Step
-
-abbrev pub asked : Job → Asked
-asked j = record { parts = j.parts.items; plan = j.plan.items }
-
 -- `{"parts":[P],"plan":[S]}`; 128 levels of parts are more than any JSON text that is read has
-unfoldable pub job_of : Data → Option Asked
+unfoldable pub job_of : Data → Option JobView
 job_of d = do
   len ← object_of 2 d
   part_items ← get (codes "parts") d

@@ -6,7 +6,7 @@ use Rattle.vx_rows.specs.Fits.{rows_fit, row_fits}
 use Rattle.vx_rows.specs.declared.dtype.DType.{DType}
 use Rattle.vx_rows.specs.declared.value.Value.{Value}
 use Rattle.vx_base.specs.Column.{Flat as FlatRows, flat}
-use Rattle.vx_plan.specs.declared.part.Part.{Part, Flat, Constant, Chunked, Lanes, Excepted, Interleaved}
+use Rattle.vx_job.specs.declared.part.Part.{Part, Flat, Constant, Chunked, Lanes, Excepted, Interleaved}
 use Rattle.vx_json.specs.declared.parts.Tag.{Tag}
 use Rattle.vx_json.specs.declared.parts.Tag.TheVariants as tag
 use Rattle.vx_json.specs.Forms.{◌>>=◌, has, object_of, list_of, whole_of, or_nothing}

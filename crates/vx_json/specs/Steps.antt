@@ -2,8 +2,8 @@
 use Rattle.std.specs.Prelude.{codes, if◌then◌else◌, Option, Some, None}
 use Rattle.serde_json.specs.Data.{Data}
 use Rattle.serde_json.specs.Find.{get, as_bool}
-use Rattle.vx_plan.specs.declared.step.Step.{Step}
-use Rattle.vx_plan.specs.declared.step.Step.TheVariants.{Slice, Points}
+use Rattle.vx_job.specs.declared.step.Step.{Step}
+use Rattle.vx_job.specs.declared.step.Step.TheVariants.{Slice, Points}
 use Rattle.vx_json.specs.declared.steps.StepTag.{StepTag}
 use Rattle.vx_json.specs.declared.steps.StepTag.TheVariants as tag
 use Rattle.vx_json.specs.Forms.{◌>>=◌, has, object_of, list_of, pair_of, whole_of}

@@ -1,6 +1,6 @@
 //! Jobs out of bytes.
 ghost use Rattle.std.specs.Prelude.{IfOk, IsOkUnless, MatchOption};
-ghost use Rattle.vx_json.specs.Job.{asked};
+ghost use Rattle.vx_job.specs.JobView.{job_view};
 ghost use Rattle.vx_json.specs.Bytes.{IsJobOf, HasNoJob};
 
 use crate::job::{Job, job_of};
@@ -11,7 +11,7 @@ use vx_rows::{ColumnError, Res};
 /// The job that the bytes are, if they are one.
 pub fn parse_job(alloc: Global, bytes: &[u8]) -> Res<Option<Job>>
     ensures ok { IfOk result
-        (λ found. MatchOption found (HasNoJob bytes.now) (λ job. IsJobOf bytes.now (asked job))) }
+        (λ found. MatchOption found (HasNoJob bytes.now) (λ job. IsJobOf bytes.now (job_view job))) }
     ensures err { IsOkUnless result ColumnError.OutOfMemory }
 {
     match Value::from_slice(alloc, bytes) {

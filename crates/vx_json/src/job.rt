@@ -2,31 +2,23 @@
 ghost use Rattle.std.specs.Prelude.{◌≡◌, IfOk, IsOkUnless, option_map};
 ghost use Rattle.serde_json.specs.View.{view};
 ghost use Rattle.vx_json.specs.Forms.{Gives};
-ghost use Rattle.vx_json.specs.Job.{asked, job_of as job_spec};
+ghost use Rattle.vx_job.specs.JobView.{job_view};
+ghost use Rattle.vx_json.specs.Job.{job_of as job_spec};
 
 use crate::forms::{Unread, field, has_len};
 use crate::parts::parts_of;
 use crate::steps::steps_of;
 use serde_json::Value;
 use std::alloc::Global;
-use vx_plan::{Part, Step};
+use vx_job::Job;
 use vx_rows::{ColumnError, Res};
 
 /// How deep parts may nest. JSON texts nest less deep than this.
 const MAX_DEPTH: usize = 128;
 
-/// The parts of a column, and the steps to take with it.
-#[derive(Drop)]
-pub struct Job {
-    /// The parts: the steps act on the first.
-    pub parts: Vec<Part>,
-    /// The steps, in order.
-    pub plan: Vec<Step>,
-}
-
 #[tactic(auto, unfolding(crate::specs::Job::job_of))]
 fn job_form(alloc: Global, value: &Value) -> Result<Job, Unread>
-    ensures { Gives asked result (job_spec (view value.now)) }
+    ensures { Gives job_view result (job_spec (view value.now)) }
 {
     has_len(value, 2)?;
     let part_items = field(value, "parts")?;
@@ -38,7 +30,7 @@ fn job_form(alloc: Global, value: &Value) -> Result<Job, Unread>
 
 /// The job that the value is, if it is one.
 pub fn job_of(alloc: Global, value: &Value) -> Res<Option<Job>>
-    ensures ok { IfOk result (λ found. option_map asked found ≡ job_spec (view value.now)) }
+    ensures ok { IfOk result (λ found. option_map job_view found ≡ job_spec (view value.now)) }
     ensures err { IsOkUnless result ColumnError.OutOfMemory }
 {
     match job_form(alloc, value) {

@@ -17,7 +17,7 @@ pub mod types;
 
 pub use bytes::parse_job;
 pub use forms::Unread;
-pub use job::{Job, job_of};
+pub use job::job_of;
 pub use lines::{page_line, refusal_line};
 pub use page::page_of;
 pub use refusal::refusal_of;

@@ -10,7 +10,7 @@ use crate::page::page_of;
 use crate::refusal::refusal_of;
 use serde_json::Value;
 use std::alloc::{AllocError, Global};
-use vx_plan::Page;
+use vx_job::Page;
 use vx_rows::{ColumnError, Res};
 
 fn line_of(alloc: Global, value: &Value) -> Result<Vec<u8>, AllocError>

@@ -7,7 +7,7 @@ use crate::row_json::rows_json;
 use crate::type_json::type_json;
 use serde_json::{Value, json};
 use std::alloc::{AllocError, Global};
-use vx_plan::{Answer, Page};
+use vx_job::{Answer, Page};
 use vx_rows::{ColumnError, Res};
 
 fn answer_json(alloc: Global, answer: &Answer) -> Result<Value, AllocError>

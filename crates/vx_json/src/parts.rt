@@ -10,7 +10,7 @@ use crate::types::type_of;
 use serde_json::Value;
 use std::alloc::Global;
 use vx_base::FlatColumn;
-use vx_plan::{Boxed, Part};
+use vx_job::{Boxed, Part};
 use vx_rows::fits::row_fits;
 use vx_rows::{ColumnError, DType, Row, Seq};
 

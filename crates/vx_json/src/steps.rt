@@ -9,7 +9,7 @@ use crate::forms::{
 };
 use serde_json::Value;
 use std::alloc::Global;
-use vx_plan::Step;
+use vx_job::Step;
 
 /// The forms of steps, each known by a key that no other has.
 #[derive(Clone, Copy, Debug, PartialEq, Eq, Drop)]

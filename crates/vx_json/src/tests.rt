@@ -1,7 +1,7 @@
 use crate::{page_line, parse_job, refusal_line};
 use std::alloc::{AllocError, Global};
 use std::test::Fail;
-use vx_plan::{Answer, Page};
+use vx_job::{Answer, Page};
 use vx_rows::{ColumnError, DType, Nullability, PType, Path, Res, Rule, Seq, Value};
 
 fn is_job(alloc: Global, text: &str) -> Res<bool> {

@@ -55,7 +55,7 @@ impl Lanes {
         ensures sound { IfOk result (λ l. IsLayout l) }
         ensures err { IfErr result (LayoutCause dtype.now (layout len n_lanes offset lane_offsets indices values)) }
         ensures rise { steps.new ≤ steps.old + length lane_offsets.rows + length indices.rows }
-        ensures kept { steps.old ≤ steps.new }
+        ensures monotone { steps.old ≤ steps.new }
     {
         let alike = values.dtype().eq_ignore_nullability(dtype);
         let parts = Layout {
@@ -163,7 +163,7 @@ impl Lanes {
         ensures only { (exception : ℕ) → Excepts self.now i exception → result ≡ Some exception }
         ensures means { option_map (value_of self.now) result ≡ paired_with (pairs_of self.now) (self.now.offset + i) }
         ensures rise { steps.new ≤ steps.old + 2 + 1024 / self.now.n_lanes }
-        ensures kept { steps.old ≤ steps.new }
+        ensures monotone { steps.old ≤ steps.new }
     {
         self.find_at(self.place_at(i), steps)
     }
@@ -211,7 +211,7 @@ impl Lanes {
         ensures rows { rows.new ≡ overlaid self.now rows.old }
         ensures means { (i : ℕ) → i < length rows.old → get_or rows.new i None ≡ replaced (get_or rows.old i None) (paired_with (pairs_of self.now) (self.now.offset + i)) }
         ensures rise { steps.new ≤ steps.old + length self.now.lane_offsets.rows + exceptions self.now + length rows.old }
-        ensures kept { steps.old ≤ steps.new }
+        ensures monotone { steps.old ≤ steps.new }
     {
         let count = self.entry_count();
         let mut from = self.lane_offset_at(0, steps);
@@ -238,7 +238,7 @@ impl Lanes {
         ensures len { length rows.new ≡ length rows.old }
         ensures rows { (bare : List (Option Value)) → rows.old ≡ overlaid_below self.now from bare → rows.new ≡ overlaid_below self.now to bare }
         ensures rise { steps.new + covered self.now from (length rows.old) ≤ steps.old + (to - from) + covered self.now to (length rows.old) }
-        ensures kept { steps.old ≤ steps.new }
+        ensures monotone { steps.old ≤ steps.new }
     {
         let chunk = entry / self.n_lanes() * CHUNK;
         for exception in from..to {
@@ -256,7 +256,7 @@ impl Lanes {
         ensures inside { self.now.offset ≤ place → steps.new ≤ steps.old + 1 }
         ensures below { place < self.now.offset → steps.new ≡ steps.old }
         ensures above { self.now.offset + self.now.len ≤ place → steps.new ≡ steps.old }
-        ensures kept { steps.old ≤ steps.new }
+        ensures monotone { steps.old ≤ steps.new }
     {
         let offset = self.offset();
         if place < offset {
@@ -302,7 +302,7 @@ impl Lanes {
         ensures only { (i exception : ℕ) → self.now.offset + i ≡ place → Excepts self.now i exception → result ≡ Some exception }
         ensures means { (i : ℕ) → self.now.offset + i ≡ place → option_map (value_of self.now) result ≡ paired_with (pairs_of self.now) (self.now.offset + i) }
         ensures rise { steps.new ≤ steps.old + 2 + 1024 / self.now.n_lanes }
-        ensures kept { steps.old ≤ steps.new }
+        ensures monotone { steps.old ≤ steps.new }
     {
         let n_lanes = self.n_lanes();
         let index = place % CHUNK;

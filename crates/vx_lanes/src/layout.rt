@@ -45,7 +45,7 @@ impl Layout {
     pub(crate) fn layout_fault<L: Ledger>(&self, alike: bool, steps: &mut Steps<L>) -> Option<Rule>
         ensures first { result ≡ layout_fault self.now alike }
         ensures rise { steps.new ≤ steps.old + length self.now.lane_offsets.rows + exceptions self.now }
-        ensures kept { steps.old ≤ steps.new }
+        ensures monotone { steps.old ≤ steps.new }
     {
         if let Some(rule) = self.offset_fault() {
             return Some(rule);
@@ -88,7 +88,7 @@ impl Layout {
         requires { first_broken (offset_rules self.now) ≡ None }
         ensures first { result ≡ first_broken (index_rules self.now) }
         ensures rise { steps.new ≤ steps.old + length self.now.lane_offsets.rows + exceptions self.now }
-        ensures kept { steps.old ≤ steps.new }
+        ensures monotone { steps.old ≤ steps.new }
     {
         let end = self.lane_offset_at(self.lane_offsets.len() - 1, steps);
         if self.ends_past(end) {
@@ -246,7 +246,7 @@ impl Layout {
         ensures offset { result ≡ lane_start self.now entry }
         ensures rise { steps.new ≤ steps.old + 1 }
         ensures last { entry ≡ entries self.now → steps.new ≡ steps.old }
-        ensures kept { steps.old ≤ steps.new }
+        ensures monotone { steps.old ≤ steps.new }
     {
         if entry == self.lane_offsets.len() - 1 {
             return end;
@@ -267,7 +267,7 @@ impl Layout {
         ensures lane { result.lane ≡ lane_index_lane self.now }
         ensures order { result.order ≡ lane_index_order self.now }
         ensures rise { steps.new ≤ steps.old + entries self.now + exceptions self.now }
-        ensures kept { steps.old ≤ steps.new }
+        ensures monotone { steps.old ≤ steps.new }
     {
         let mut faults = Faults {
             range: false,

@@ -184,7 +184,7 @@ impl PatchIndex {
     pub fn search_index<L: Ledger>(&self, index: usize, steps: &mut Steps<L>) -> SearchResult
         ensures place { result ≡ place_among (rows_of self.now) index }
         ensures rise { steps.new ≤ steps.old + (offset_reads self.now.chunk_offsets + comparisons self.now.chunk_offsets (length (indices_of self.now))) }
-        ensures kept { steps.old ≤ steps.new }
+        ensures monotone { steps.old ≤ steps.new }
     {
         if index >= self.array_len {
             return self.behind_all(index);
@@ -227,7 +227,7 @@ impl PatchIndex {
         ensures between { IsBetween (indices_of self.now) (index + self.now.offset) result.0 result.1 }
         ensures few { searches.search_bound (result.1 - result.0) ≤ comparisons self.now.chunk_offsets (length (indices_of self.now)) }
         ensures reads { steps.new ≤ steps.old + offset_reads self.now.chunk_offsets }
-        ensures kept { steps.old ≤ steps.new }
+        ensures monotone { steps.old ≤ steps.new }
     {
         let count = self.indices.len();
         let Some(offsets) = &self.chunk_offsets else {
@@ -268,7 +268,7 @@ impl PatchIndex {
         ensures whole { range.start ≡ 0 → range.end ≡ self.now.len → IfOk result (IsWhole self.now) }
         ensures err { IfErr result (SliceCause self.now.len range.start range.end) }
         ensures rise { steps.new ≤ steps.old + ends_cut range.start range.end self.now.len * cut_cost self.now }
-        ensures kept { steps.old ≤ steps.new }
+        ensures monotone { steps.old ≤ steps.new }
     {
         let Range { start, end } = range;
         if end < start {
@@ -291,7 +291,7 @@ impl PatchIndex {
     fn front<L: Ledger>(&self, start: usize, steps: &mut Steps<L>) -> usize
         ensures place { result ≡ place_of start (rows_of self.now) }
         ensures rise { steps.new ≤ steps.old + cond (start == 0) 0 1 * search_cost self.now }
-        ensures kept { steps.old ≤ steps.new }
+        ensures monotone { steps.old ≤ steps.new }
     {
         if start == 0 {
             // That no index is below the offset is known where a field is read.
@@ -305,7 +305,7 @@ impl PatchIndex {
     fn back<L: Ledger>(&self, end: usize, steps: &mut Steps<L>) -> usize
         ensures place { result ≡ place_of end (rows_of self.now) }
         ensures rise { steps.new ≤ steps.old + cond (end == self.now.len) 0 1 * search_cost self.now }
-        ensures kept { steps.old ≤ steps.new }
+        ensures monotone { steps.old ≤ steps.new }
     {
         if end == self.array_len {
             return self.indices.len();
@@ -330,7 +330,7 @@ impl PatchIndex {
         ensures ok { IfOk result (λ part. IsSliceOf self.now part start end first last) }
         ensures err { IsOkUnless result OutOfMemory }
         ensures rise { steps.new ≤ steps.old + cond (start == 0) 0 (front_reads self.now.chunk_offsets) }
-        ensures kept { steps.old ≤ steps.new }
+        ensures monotone { steps.old ≤ steps.new }
     {
         let array_len = end - start;
         let offset = self.offset + start;

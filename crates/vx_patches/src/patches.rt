@@ -152,7 +152,7 @@ impl Patches {
         ensures ok { IfOk result (IsEntry self.now.index.chunk_offsets idx) }
         ensures err { IfErr result (EntryCause self.now.index.chunk_offsets idx) }
         ensures rise { steps.new ≤ steps.old + 1 }
-        ensures kept { steps.old ≤ steps.new }
+        ensures monotone { steps.old ≤ steps.new }
     {
         let Some(offsets) = self.index.chunk_offsets() else {
             return Err(ColumnError::NoChunkOffsets);
@@ -168,7 +168,7 @@ impl Patches {
     pub fn search_index<L: Ledger>(&self, index: usize, steps: &mut Steps<L>) -> SearchResult
         ensures place { result ≡ place_among (firsts (pairs_of self.now)) index }
         ensures rise { steps.new ≤ steps.old + (offset_reads self.now.index.chunk_offsets + comparisons self.now.index.chunk_offsets (length (indices_of self.now.index))) }
-        ensures kept { steps.old ≤ steps.new }
+        ensures monotone { steps.old ≤ steps.new }
     {
         self.index.search_index(index, steps)
     }
@@ -185,7 +185,7 @@ impl Patches {
         ensures err { IsOkUnless result OutOfMemory }
         ensures free { IsFalse (type_takes_memory self.now.values.dtype) → IsOk result }
         ensures rise { steps.new ≤ steps.old + search_cost self.now.index + 1 }
-        ensures kept { steps.old ≤ steps.new }
+        ensures monotone { steps.old ≤ steps.new }
     {
         match self.search_index(index, steps) {
             SearchResult::Found(place) => Ok(Some(self.values.row_at(alloc, place, steps)?)),
@@ -220,7 +220,7 @@ impl Patches {
         ensures whole { range.start ≡ 0 → range.end ≡ self.now.index.len → IfOk result (IsAll self.now) }
         ensures err { IfErr result (SliceCause self.now.index.len range.start range.end) }
         ensures rise { steps.new ≤ steps.old + ends_cut range.start range.end self.now.index.len * cut_cost self.now.index }
-        ensures kept { steps.old ≤ steps.new }
+        ensures monotone { steps.old ≤ steps.new }
     {
         let Some((index, places)) = self.index.slice(range, steps)? else {
             return Ok(None);

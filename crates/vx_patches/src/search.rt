@@ -26,7 +26,7 @@ fn first_from<L: Ledger>(
     ensures below { 0 < result → slice_index (numbers_of column.now.rows) (result - 1) < value }
     ensures above { result < length (numbers_of column.now.rows) → value ≤ slice_index (numbers_of column.now.rows) result }
     ensures rise { steps.new ≤ steps.old + rounds (end - start) }
-    ensures kept { steps.old ≤ steps.new }
+    ensures monotone { steps.old ≤ steps.new }
 {
     // Each row fits the type.
     let _ = column.dtype();
@@ -51,7 +51,7 @@ pub(crate) fn search_between<L: Ledger>(
     requires between { IsBetween (numbers_of column.now.rows) value start end }
     ensures place { result ≡ place_among (numbers_of column.now.rows) value }
     ensures rise { steps.new ≤ steps.old + search_bound (end - start) }
-    ensures kept { steps.old ≤ steps.new }
+    ensures monotone { steps.old ≤ steps.new }
 {
     let place = first_from(column, start, end, value, steps);
     if place < end && column.number_at(place, steps) == value {
@@ -74,7 +74,7 @@ pub(crate) fn chunk_places<L: Ledger>(
     ensures end { chunk + 1 < length offsets.now.rows → result.1 ≡ min (slice_index (numbers_of offsets.now.rows) (chunk + 1) - slice_index (numbers_of offsets.now.rows) 0 - within) count }
     ensures last { chunk + 1 ≡ length offsets.now.rows → result.1 ≡ count }
     ensures rise { steps.new ≤ steps.old + 3 }
-    ensures kept { steps.old ≤ steps.new }
+    ensures monotone { steps.old ≤ steps.new }
 {
     let base = offsets.number_at(0, steps);
     let first = offsets.number_at(chunk, steps);
@@ -104,7 +104,7 @@ pub(crate) fn cut_within<L: Ledger>(
     requires fits { within + first < 2 ^ 64 }
     ensures within { result ≡ cut_away (numbers_of offsets.now.rows) within first chunk }
     ensures rise { steps.new ≤ steps.old + cond (chunk == 0) 0 2 }
-    ensures kept { steps.old ≤ steps.new }
+    ensures monotone { steps.old ≤ steps.new }
 {
     if chunk == 0 {
         return within + first;

@@ -7,14 +7,15 @@ use Rattle.vx_rows.specs.declared.error.ColumnError.TheVariants.{OutOfMemory}
 use Rattle.vx_base.specs.Column.{Flat, flat}
 use Rattle.vx_column.specs.Columns.{flat_of, point_cost, select_bound, is_plain, IsSound}
 use Rattle.vx_column.specs.declared.column.Column.{Column}
-use Rattle.vx_plan.specs.declared.part.Part.{Part}
-use Rattle.vx_plan.specs.declared.step.Step.{Step}
-use Rattle.vx_plan.specs.declared.page.Answer.{Answer}
-use Rattle.vx_plan.specs.Answered.{CostsNoMore}
-use Rattle.vx_plan.specs.Parts.{part_flat, open_cost, IsClean, IsOpened, AreOpened, PartsCause, IsFirst, IsOpenError}
-use Rattle.vx_plan.specs.Plans.{Reached, Reaches, run_rows, IsRunError, IsPlanError, plan_cost, plan_bound, rows_bound}
+use Rattle.vx_job.specs.declared.part.Part.{Part}
+use Rattle.vx_job.specs.declared.step.Step.{Step}
+use Rattle.vx_job.specs.declared.page.Answer.{Answer}
+use Rattle.vx_plan.specs.AnswersView.{CostsNoMore}
+use Rattle.vx_job.specs.Parts.{part_flat, open_cost, IsClean, PartsCause, IsOpenError}
+use Rattle.vx_plan.specs.Opened.{IsOpened, AreOpened, IsFirst}
+use Rattle.vx_job.specs.Plans.{Reached, Reaches, run_rows, IsRunError, IsPlanError, plan_cost, plan_bound, rows_bound}
 use Rattle.vx_plan.proofs.Opened.{parts_clean}
-use Rattle.vx_plan.proofs.Faults.{no_fault_among}
+use Rattle.vx_job.proofs.Faults.{no_fault_among}
 
 pub first_is : (ps : List Part) (cs : List Column) (x : Column) → AreOpened ps cs → 0 < length ps → x ≡ get_or cs 0 x → IsFirst ps x
 first_is [] cs x o some at = absurd (omega arith)

@@ -16,23 +16,25 @@ use Rattle.vx_patches.specs.Search.{search_cost}
 use Rattle.vx_lanes.specs.Layouts.{layout, overlaid}
 use Rattle.vx_lanes.specs.declared.layout.Layout.{Layout}
 use Rattle.vx_interleave.specs.Selections.{Selection, selection, pairs_of}
-use Rattle.vx_column.specs.Kinds.{woven_type}
-use Rattle.vx_column.specs.Faults.{Fault, IsLanesFault, IsExceptionsFault, IsWovenFault}
-use Rattle.vx_column.specs.Columns.{Rows, joined, excepted, woven, greatest, lane_reads, lane_entries, rows_of, type_of, len_of, IsOf, IsSound, point_cost, lane_cost, is_plain, all_true, inner_of, lanes_of, base_of, values_of, index_of, woven_of, selectors_of}
+use Rattle.vx_job.specs.Kinds.{interleaved_type}
+use Rattle.vx_job.specs.Faults.{Fault, IsLanesFault, IsExceptionsFault, IsInterleaveFault}
+use Rattle.vx_column.specs.Columns.{lane_entries, rows_of, type_of, len_of, IsOf, IsSound, point_cost, lane_cost, is_plain, all_true, inner_of, lanes_of, base_of, values_of, index_of, interleaved_of, selectors_of}
+use Rattle.vx_job.specs.Rows.{Rows, joined, excepted, interleaved, greatest, lane_reads}
 use Rattle.vx_column.specs.declared.column.Chunked.{Chunked}
 use Rattle.vx_column.specs.declared.patched.Patched.{Patched}
 use Rattle.vx_column.specs.declared.excepted.Excepted.{Excepted}
 use Rattle.vx_column.specs.declared.interleave.Interleave.{Interleave}
 use Rattle.vx_column.specs.declared.column.Column.{Column}
 use Rattle.vx_column.specs.declared.column.Column.TheVariants as column
-use Rattle.vx_column.proofs.Layers.{sound_flat, woven_here}
+use Rattle.vx_column.proofs.Layers.{sound_flat, interleaved_here}
 use Rattle.vx_column.proofs.Layers as layer
 use Rattle.vx_column.proofs.Cuts.{point_cost_is}
-use Rattle.vx_plan.specs.Parts.{part_type, part_rows, part_len, part_point_cost, part_lane_cost, IsPartOf, IsClean, IsOpened, AreOpened}
-use Rattle.vx_plan.specs.declared.part.Part.{Part}
-use Rattle.vx_plan.specs.declared.part.Part.TheVariants as part
-use Rattle.vx_plan.proofs.Parts.{clean_flat, clean_constant, clean_chunked, clean_lanes, clean_excepted, clean_interleaved}
-use Rattle.vx_plan.proofs.Parts as its
+use Rattle.vx_job.specs.Parts.{part_type, part_rows, part_len, part_point_cost, part_lane_cost, IsPartOf, IsClean}
+use Rattle.vx_plan.specs.Opened.{IsOpened, AreOpened}
+use Rattle.vx_job.specs.declared.part.Part.{Part}
+use Rattle.vx_job.specs.declared.part.Part.TheVariants as part
+use Rattle.vx_job.proofs.Parts.{clean_flat, clean_constant, clean_chunked, clean_lanes, clean_excepted, clean_interleaved}
+use Rattle.vx_job.proofs.Parts as its
 
 -- lists of parts and their columns
 pub opened_push : (ps : List Part) (cs : List Column) (p : Part) (c : Column) → AreOpened ps cs → IsOpened p c → AreOpened (ps ++ p ∷ []) (cs ++ c ∷ [])
@@ -116,10 +118,10 @@ exceptions_down b o is v co c d fault base values h =
     (subst (λ t. IsExceptionsFault (type_of c) (len_of c) o is t (part_len v) co fault) values.dtype
     (subst (λ m. IsExceptionsFault (type_of c) (len_of c) o is (type_of d) m co fault) (ap length values.rows) h)))
 
-pub woven_down : (ps : List Part) (ai ri : Flat) (cs : List Column) (fault : Option Fault) → AreOpened ps cs → IsWovenFault (map type_of cs) (map len_of cs) ai ri fault
-    → IsWovenFault (map part_type ps) (map part_len ps) ai ri fault
-woven_down ps ai ri cs fault o h =
-    subst (λ ts. IsWovenFault ts (map part_len ps) ai ri fault) (types_same ps cs o) (subst (λ ns. IsWovenFault (map type_of cs) ns ai ri fault) (lens_same ps cs o) h)
+pub interleaved_down : (ps : List Part) (ai ri : Flat) (cs : List Column) (fault : Option Fault) → AreOpened ps cs → IsInterleaveFault (map type_of cs) (map len_of cs) ai ri fault
+    → IsInterleaveFault (map part_type ps) (map part_len ps) ai ri fault
+interleaved_down ps ai ri cs fault o h =
+    subst (λ ts. IsInterleaveFault ts (map part_len ps) ai ri fault) (types_same ps cs o) (subst (λ ns. IsInterleaveFault (map type_of cs) ns ai ri fault) (lens_same ps cs o) h)
 
 -- opened parts
 pub opened_flat : (self : Part) (c : Flat) → self ≡ part.Flat c → IsOpened self (column.Flat c)
@@ -195,15 +197,15 @@ opened_excepted self b o is v co c d a at base values e f i s h = subst (λ x. I
       plain = layer.plain_excepted a ∙ and_from (is_plain a.base) (is_plain a.values) (ap is_plain e ∙ base.plain) (ap is_plain f ∙ values.plain);
     })
 
-pub opened_interleaved : (self : Part) (ps : List Part) (ai ri : Flat) (cs : List Column) (a : Interleave Column) → self ≡ part.Interleaved ps ai ri → AreOpened ps cs → woven_of a ≡ cs →
-    selectors_of a ≡ selection ai ri → IsSound (column.Interleave a) → IsWovenFault (map type_of cs) (map len_of cs) ai ri None → IsOpened self (column.Interleave a)
+pub opened_interleaved : (self : Part) (ps : List Part) (ai ri : Flat) (cs : List Column) (a : Interleave Column) → self ≡ part.Interleaved ps ai ri → AreOpened ps cs → interleaved_of a ≡ cs →
+    selectors_of a ≡ selection ai ri → IsSound (column.Interleave a) → IsInterleaveFault (map type_of cs) (map len_of cs) ai ri None → IsOpened self (column.Interleave a)
 opened_interleaved self ps ai ri cs a is o e l s h = subst (λ x. IsOpened x (column.Interleave a)) (sym is)
     (let types : map type_of a.values ≡ map part_type ps = ap (map type_of) e ∙ types_same ps cs o in
     record {
-      clean = clean_interleaved ps ai ri (parts_clean ps cs o) (woven_down ps ai ri cs None o h);
+      clean = clean_interleaved ps ai ri (parts_clean ps cs o) (interleaved_down ps ai ri cs None o h);
       sound = s;
-      dtype = layer.type_interleave a ∙ (woven_here a s).joined ∙ ap woven_type types ∙ sym (its.type_interleaved ps ai ri);
-      rows = layer.rows_interleave a ∙ ap (λ (x : Selection). woven (map rows_of a.values) (pairs_of x)) l ∙ ap (λ (rs : List Rows). woven rs (pairs_of (selection ai ri))) (ap (map rows_of) e ∙ rows_same ps cs o)
+      dtype = layer.type_interleave a ∙ (interleaved_here a s).joined ∙ ap interleaved_type types ∙ sym (its.type_interleaved ps ai ri);
+      rows = layer.rows_interleave a ∙ ap (λ (x : Selection). interleaved (map rows_of a.values) (pairs_of x)) l ∙ ap (λ (rs : List Rows). interleaved rs (pairs_of (selection ai ri))) (ap (map rows_of) e ∙ rows_same ps cs o)
           ∙ sym (its.rows_interleaved ps ai ri);
       point = layer.point_interleave a ∙ ap (λ ns. 2 + greatest ns) (ap (map point_cost) e ∙ points_same ps cs o) ∙ sym (its.point_interleaved ps ai ri);
       lanes = layer.lane_interleave a ∙ ap total (ap (map lane_cost) e ∙ lanes_same ps cs o) ∙ sym (its.lane_interleaved ps ai ri);

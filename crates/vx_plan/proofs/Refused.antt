@@ -11,16 +11,17 @@ use Rattle.vx_rows.specs.declared.error.ColumnError.{ColumnError}
 use Rattle.vx_rows.specs.declared.error.ColumnError.TheVariants.{OutOfMemory}
 use Rattle.vx_rows.specs.declared.error.Rule.TheVariants.{RowType, TooLong, ChunkType}
 use Rattle.vx_chunks.specs.Bounds.{total}
-use Rattle.vx_column.specs.Faults.{Fault, error_at, MadeCause, IsLanesFault, IsExceptionsFault, IsWovenFault}
-use Rattle.vx_column.specs.Faults.Fault.{Unsupported, Broken}
+use Rattle.vx_job.specs.Faults.{Fault, error_at, MadeCause, IsLanesFault, IsExceptionsFault, IsInterleaveFault}
+use Rattle.vx_job.specs.Faults.Fault.{Unsupported, Broken}
 use Rattle.vx_column.specs.Columns.{type_of, len_of, IsOf, ChunksCause}
 use Rattle.vx_column.specs.declared.column.Column.{Column}
-use Rattle.vx_plan.specs.Parts.{part_type, part_len, part_lane_cost, open_cost, IsPartOf, IsOwnFault, IsClean, children, OwnFault, At, FaultAt, IsFaultOf, IsFaultUnder, IsFaultIn, Within, IsOpened, AreOpened}
-use Rattle.vx_plan.specs.declared.part.Part.{Part, out-Part}
-use Rattle.vx_plan.specs.declared.part.Part.TheOpen.{Part-F}
-use Rattle.vx_plan.specs.declared.part.Part.TheVariants.{outs-Constant, outs-Chunked, outs-Lanes, outs-Excepted, outs-Interleaved}
-use Rattle.vx_plan.specs.declared.part.Part.TheVariants as part
-use Rattle.vx_plan.proofs.Opened.{lens_same, parts_clean, types_up, lanes_down, exceptions_down, woven_down}
+use Rattle.vx_job.specs.Parts.{part_type, part_len, part_lane_cost, open_cost, IsPartOf, IsOwnFault, IsClean, children, OwnFault, At, FaultAt, IsFaultOf, IsFaultUnder, IsFaultIn, Within}
+use Rattle.vx_plan.specs.Opened.{IsOpened, AreOpened}
+use Rattle.vx_job.specs.declared.part.Part.{Part, out-Part}
+use Rattle.vx_job.specs.declared.part.Part.TheOpen.{Part-F}
+use Rattle.vx_job.specs.declared.part.Part.TheVariants.{outs-Constant, outs-Chunked, outs-Lanes, outs-Excepted, outs-Interleaved}
+use Rattle.vx_job.specs.declared.part.Part.TheVariants as part
+use Rattle.vx_plan.proofs.Opened.{lens_same, parts_clean, types_up, lanes_down, exceptions_down, interleaved_down}
 
 -- ---- a fault of the part's own
 
@@ -72,10 +73,10 @@ fault_excepted self b o is v co c d e at base values cause =
     (λ f. exceptions_down b o is v co c d f base values) cause)
 
 pub fault_interleaved : (self : Part) (ps : List Part) (ai ri : Flat) (cs : List Column) (e : ColumnError) → self ≡ part.Interleaved ps ai ri → AreOpened ps cs
-    → MadeCause (IsWovenFault (map type_of cs) (map len_of cs) ai ri) e → IsFaultOf self e
+    → MadeCause (IsInterleaveFault (map type_of cs) (map len_of cs) ai ri) e → IsFaultOf self e
 fault_interleaved self ps ai ri cs e at o cause =
     own_told self (Part-F.Interleaved ps ai ri) e (ap out-Part at ∙ outs-Interleaved ps ai ri) (parts_clean ps cs o)
-    (cause_in (IsWovenFault (map type_of cs) (map len_of cs) ai ri) (IsWovenFault (map part_type ps) (map part_len ps) ai ri) e (λ f. woven_down ps ai ri cs f o) cause)
+    (cause_in (IsInterleaveFault (map type_of cs) (map len_of cs) ai ri) (IsInterleaveFault (map part_type ps) (map part_len ps) ai ri) e (λ f. interleaved_down ps ai ri cs f o) cause)
 
 -- ---- a fault of a part within
 

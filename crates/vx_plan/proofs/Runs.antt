@@ -7,13 +7,14 @@ use Rattle.vx_rows.specs.declared.error.ColumnError.{ColumnError}
 use Rattle.vx_rows.specs.declared.error.ColumnError.TheVariants.{OutOfMemory}
 use Rattle.vx_base.specs.Column.{Flat}
 use Rattle.vx_base.specs.Ranges.{ends_cut}
-use Rattle.vx_column.specs.Columns.{Rows}
+use Rattle.vx_job.specs.Rows.{Rows}
 use Rattle.vx_column.specs.declared.column.Column.{Column}
-use Rattle.vx_plan.specs.Answered.{CostsNoMore}
-use Rattle.vx_plan.specs.declared.page.Answer.{Answer}
-use Rattle.vx_plan.specs.declared.step.Step.{Step}
-use Rattle.vx_plan.specs.declared.step.Step.TheVariants.{Slice, Points}
-use Rattle.vx_plan.specs.Plans.{Run, Reached, Stopped, with_answers, run_from, stops_at, any_past, step_leaves, step_answers, IsStepError, IsRunError, step_cost, plan_cost, picked}
+use Rattle.vx_plan.specs.AnswersView.{CostsNoMore}
+use Rattle.vx_job.specs.declared.page.Answer.{Answer}
+use Rattle.vx_job.specs.declared.step.Step.{Step}
+use Rattle.vx_job.specs.declared.step.Step.TheVariants.{Slice, Points}
+use Rattle.vx_job.specs.Plans.{Run, Reached, Stopped, with_answers, run_from, stops_at, any_past, IsRunError, plan_cost}
+use Rattle.vx_job.specs.Steps.{step_leaves, step_answers, IsStepError, step_cost, picked}
 
 with_both : (a b : List Answer) (r : Run) → with_answers a (with_answers b r) ≡ with_answers (a ++ b) r
 with_both a b (Reached answers last) = ap (λ xs. Reached xs last) (sym (append_assoc a b answers))

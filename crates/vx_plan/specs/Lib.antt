@@ -1,6 +1,2 @@
-pub mod formers
-pub mod Parts
-pub mod Plans
-pub mod Shown
-pub mod Answered
-pub mod Laws
+pub mod Opened
+pub mod AnswersView

@@ -1,8 +1,8 @@
 //! What a plan gives to its caller.
 ghost use Rattle.std.specs.Prelude.{◌≡◌, ◌+◌, ◌≤◌, IfOk, IsOkUnless};
 ghost use Rattle.vx_column.specs.Columns.{IsSound, type_of, rows_of, len_of, select_bound};
-ghost use Rattle.vx_plan.specs.Answered.{answered};
-ghost use Rattle.vx_plan.specs.Shown.{shown};
+ghost use Rattle.vx_plan.specs.AnswersView.{answers_view};
+ghost use Rattle.vx_job.specs.PageView.{page_view};
 
 use crate::page::{Answer, Page};
 use std::alloc::Global;
@@ -19,13 +19,13 @@ pub struct Answers {
 
 impl Model for Answers {
     ghost use Rattle.vx_column.specs.Columns.{IsSound};
-    ghost use Rattle.vx_plan.specs.Answered.{Answered, answered, answered_code};
+    ghost use Rattle.vx_plan.specs.AnswersView.{AnswersView, answers_view, answers_code};
 
-    ghost Value = { Answered };
+    ghost Value = { AnswersView };
 
-    ghost coded = { answered_code };
+    ghost coded = { answers_code };
 
-    ghost view = { λ a. answered a.answers a.column };
+    ghost view = { λ a. answers_view a.answers a.column };
 
     ghost invariant = { λ a. IsSound a.column };
 }
@@ -34,7 +34,7 @@ impl Answers {
     /// These answers with this last column.
     pub fn new(answers: Seq<Answer>, column: Column) -> Answers
         requires { IsSound column }
-        ensures { result ≡ answered answers column }
+        ensures { result ≡ answers_view answers column }
     {
         Answers { answers, column }
     }
@@ -63,10 +63,10 @@ impl Answers {
 
     /// The page of these answers, with copies of the last column's rows.
     pub fn into_rows<L: Ledger>(self, alloc: Global, steps: &mut Steps<L>) -> Res<Page>
-        ensures ok { IfOk result (λ page. page ≡ shown self.answers (type_of self.column) (rows_of self.column)) }
+        ensures ok { IfOk result (λ page. page ≡ page_view self.answers (type_of self.column) (rows_of self.column)) }
         ensures err { IsOkUnless result ColumnError.OutOfMemory }
         ensures rise { steps.new ≤ steps.old + select_bound self.column (len_of self.column) }
-        ensures kept { steps.old ≤ steps.new }
+        ensures monotone { steps.old ≤ steps.new }
     {
         let Answers { answers, column } = self;
         let dtype = column.dtype().copy()?;

@@ -3,12 +3,14 @@ ghost use Rattle.std.specs.Prelude.{◌≡◌, ℕ, ◌+◌, ◌*◌, ◌≤◌,
 ghost use Rattle.std.specs.Prelude.{IfOk, OnOk, IfErr, IsOkUnless, IsTrue, List};
 ghost use Rattle.vx_base.specs.Column.{Flat};
 ghost use Rattle.vx_column.specs.Columns.{rows_of, len_of, flat_of, IsSound, point_cost, select_bound, is_plain};
-ghost use Rattle.vx_plan.specs.Answered.{CostsNoMore};
-ghost use Rattle.vx_plan.specs.Parts.{IsFirst, IsOpenError, open_cost};
-ghost use Rattle.vx_plan.specs.Plans.{run_rows, Reached, IsRunError, Reaches, IsPlanError, plan_cost, plan_bound, rows_bound};
-ghost use Rattle.vx_plan.specs.Plans.{picked, stops_at, any_past, step_leaves, step_answers, step_cost, IsStepError, IsPointsError};
-ghost use Rattle.vx_plan.specs.declared.page.Answer.{Answer};
-ghost use Rattle.vx_plan.specs.declared.page.Answer.TheVariants.{Rows as answer_rows};
+ghost use Rattle.vx_plan.specs.AnswersView.{CostsNoMore};
+ghost use Rattle.vx_job.specs.Parts.{IsOpenError, open_cost};
+ghost use Rattle.vx_plan.specs.Opened.{IsFirst};
+ghost use Rattle.vx_job.specs.Plans.{run_rows, Reached, IsRunError, Reaches, IsPlanError, plan_cost, plan_bound, rows_bound};
+ghost use Rattle.vx_job.specs.Plans.{stops_at, any_past};
+ghost use Rattle.vx_job.specs.Steps.{picked, step_leaves, step_answers, step_cost, IsStepError, IsPointsError};
+ghost use Rattle.vx_job.specs.declared.page.Answer.{Answer};
+ghost use Rattle.vx_job.specs.declared.page.Answer.TheVariants.{Rows as answer_rows};
 
 use crate::answers::Answers;
 use crate::page::Answer;
@@ -32,7 +34,7 @@ pub fn run_plan<L: Ledger>(
     ensures complete { (answers : List Answer) → (last : Flat) → Reaches parts.items plan.now answers last
         → IsOkUnless result ColumnError.OutOfMemory }
     ensures rise { steps.new ≤ steps.old + plan_bound parts.items plan.now }
-    ensures kept { steps.old ≤ steps.new }
+    ensures monotone { steps.old ≤ steps.new }
     ensures plain { IfOk result (λ a. IsTrue (is_plain a.column)) }
     ensures select { IfOk result (λ a. (n : ℕ) → select_bound a.column n ≤ rows_bound parts.items n) }
 {
@@ -49,7 +51,7 @@ fn open_and_run<L: Ledger>(
     ensures ok { IfOk result (λ a. Reaches parts.items plan.now a.answers (flat_of a.column)) }
     ensures err { IfErr result (λ e. (e ≡ ColumnError.OutOfMemory) ⊎ IsPlanError parts.items plan.now e) }
     ensures rise { steps.new ≤ steps.old + plan_bound parts.items plan.now }
-    ensures kept { steps.old ≤ steps.new }
+    ensures monotone { steps.old ≤ steps.new }
     ensures plain { IfOk result (λ a. IsTrue (is_plain a.column)) }
     ensures select { IfOk result (λ a. (n : ℕ) → select_bound a.column n ≤ rows_bound parts.items n) }
 {
@@ -62,7 +64,7 @@ fn open_first<L: Ledger>(alloc: Global, parts: Vec<Part>, steps: &mut Steps<L>) 
     ensures ok { IfOk result (λ column. IsFirst parts.items column) }
     ensures err { IfErr result (λ e. (e ≡ ColumnError.OutOfMemory) ⊎ IsOpenError parts.items e) }
     ensures rise { steps.new ≤ steps.old + open_cost parts.items }
-    ensures kept { steps.old ≤ steps.new }
+    ensures monotone { steps.old ≤ steps.new }
 {
     let columns = open_parts(alloc, parts, steps)?;
     columns.as_slice()[0].share(alloc)
@@ -80,7 +82,7 @@ fn run_steps<L: Ledger>(
     ensures err { IfErr result (λ e. (e ≡ ColumnError.OutOfMemory) ⊎ IsRunError (run_rows (flat_of first) plan.now) e) }
     ensures costs { IfOk result (λ a. CostsNoMore first a.column) }
     ensures rise { steps.new ≤ steps.old + plan_cost (point_cost first) plan.now }
-    ensures kept { steps.old ≤ steps.new }
+    ensures monotone { steps.old ≤ steps.new }
 {
     let mut column = first;
     let mut answers = Vec::new(alloc);
@@ -107,7 +109,7 @@ fn take_step<L: Ledger>(
     ensures err { IfErr result (λ e. (e ≡ ColumnError.OutOfMemory)
         ⊎ ((number : ℕ) → IsStepError number (flat_of column) step.now e)) }
     ensures rise { steps.new ≤ steps.old + step_cost (point_cost column) step.now }
-    ensures kept { steps.old ≤ steps.new }
+    ensures monotone { steps.old ≤ steps.new }
 {
     match step {
         Step::Slice { start, end } => column.slice(alloc, *start..*end, steps),
@@ -131,7 +133,7 @@ fn answer_points<L: Ledger>(
     ensures inside { OnOk result (any_past (len_of column.now) numbers.now ≡ false) }
     ensures err { IfErr result (λ e. (e ≡ ColumnError.OutOfMemory) ⊎ IsPointsError (len_of column.now) numbers.now e) }
     ensures rise { steps.new ≤ steps.old + length numbers.now * point_cost column.now }
-    ensures kept { steps.old ≤ steps.new }
+    ensures monotone { steps.old ≤ steps.new }
 {
     let rows = points(alloc, column, numbers, steps)?;
     answers.push(Answer::Rows(rows))?;
@@ -150,7 +152,7 @@ fn points<L: Ledger>(
     ensures inside { OnOk result (any_past (len_of column.now) numbers.now ≡ false) }
     ensures err { IfErr result (λ e. (e ≡ ColumnError.OutOfMemory) ⊎ IsPointsError (len_of column.now) numbers.now e) }
     ensures rise { steps.new ≤ steps.old + length numbers.now * point_cost column.now }
-    ensures kept { steps.old ≤ steps.new }
+    ensures monotone { steps.old ≤ steps.new }
 {
     let mut probe = ArrayProbe::once(column);
     let mut rows = Seq::new(alloc);

@@ -118,9 +118,9 @@ impl DType {
             DType::Decimal(d, n) => Ok(DType::Decimal(*d, *n)),
             DType::Utf8(n) => Ok(DType::Utf8(*n)),
             DType::Binary(n) => Ok(DType::Binary(*n)),
-            DType::List(t, n) => Ok(DType::List(t.copy()?, *n)),
-            DType::FixedSizeList(t, size, n) => Ok(DType::FixedSizeList(t.copy()?, *size, *n)),
-            DType::Struct(fields, n) => Ok(DType::Struct(fields.copy()?, *n)),
+            DType::List(t, n) => Ok(DType::List(t.share()?, *n)),
+            DType::FixedSizeList(t, size, n) => Ok(DType::FixedSizeList(t.share()?, *size, *n)),
+            DType::Struct(fields, n) => Ok(DType::Struct(fields.share()?, *n)),
         }
     }
 }

@@ -57,8 +57,8 @@ impl DecimalDType {
     }
 
     /// The greatest number of digits, 1 to 38.
-    pub fn precision(self) -> u8
-        ensures value { result ≡ self.0 }
+    pub fn precision(&self) -> u8
+        ensures value { result ≡ self.now.0 }
         ensures positive { 0 < result }
         ensures at_most { result ≤ 38 }
     {
@@ -66,8 +66,8 @@ impl DecimalDType {
     }
 
     /// How many of the digits stand behind the point.
-    pub fn scale(self) -> i8
-        ensures { result ≡ self.1 }
+    pub fn scale(&self) -> i8
+        ensures { result ≡ self.now.1 }
     {
         self.scale
     }

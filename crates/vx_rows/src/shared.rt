@@ -52,7 +52,7 @@ impl<T: Drop> Shared<T> {
     }
 
     /// A second handle on the same value, which is not copied.
-    pub fn copy(&self) -> Result<Shared<T>, AllocError>
+    pub fn share(&self) -> Result<Shared<T>, AllocError>
         ensures { IfOk result (λ s. s ≡ self.now) }
     {
         Ok(Shared {

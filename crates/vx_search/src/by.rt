@@ -38,7 +38,7 @@ pub(crate) fn halve_by<F: FnMut(usize) -> Res<Ordering>, L: Ledger>(
     ensures err { IfErr result (RefusesBelow F.FnMut to (rounds (to - from)) find) }
     ensures rise { steps.new ≤ steps.old + rounds (to - from) }
     ensures least { IfOk result (λ _. steps.old + rounds (to - from) ≤ steps.new) }
-    ensures kept { steps.old ≤ steps.new }
+    ensures monotone { steps.old ≤ steps.new }
 {
     let mut size = to - from;
     if size == 0 {
@@ -82,7 +82,7 @@ pub(crate) fn search_both_by<
     ensures err { IfErr result (λ e. RefusesBelow F.FnMut len (rounds len) find e ⊎ RefusesBelow N.FnMut len (rounds len) side_find e) }
     ensures rise { steps.new ≤ steps.old + search_bound len }
     ensures least { IfOk result (λ _. steps.old + rounds len ≤ steps.new) }
-    ensures kept { steps.old ≤ steps.new }
+    ensures monotone { steps.old ≤ steps.new }
 {
     let found = match halve_by(find, 0, len, steps)? {
         SearchResult::NotFound(place) => return Ok(SearchResult::NotFound(place)),

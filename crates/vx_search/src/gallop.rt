@@ -24,7 +24,7 @@ pub fn partition_point_counted<S: IndexOrd<V>, V, L: Ledger>(
     ensures ok { IfOk result (IsFirstFrom (standing S.stands (S.sequence seq.old) needle.now) range.start range.end) }
     ensures err { IfErr result (MemoryCause (S.takes_memory seq.old)) }
     ensures rise { steps.new ≤ steps.old + rounds (range.end - range.start) * S.cmp_cost seq.old }
-    ensures kept { steps.old ≤ steps.new }
+    ensures monotone { steps.old ≤ steps.new }
     ensures same { S.sequence seq.new ≡ S.sequence seq.old }
     ensures same_cost { S.cmp_cost seq.new ≡ S.cmp_cost seq.old }
     ensures same_memory { S.takes_memory seq.new ≡ S.takes_memory seq.old }
@@ -47,7 +47,7 @@ pub fn gallop_lower_bound<S: IndexOrd<V>, V, L: Ledger>(
     ensures err { IfErr result (MemoryCause (S.takes_memory seq.old)) }
     ensures rise { IfOk result (λ i. steps.new ≤ steps.old + (2 * log_up (i - start + 1) + 1) * S.cmp_cost seq.old) }
     ensures most { steps.new ≤ steps.old + (2 * log_up (length (S.sequence seq.old) - start + 1) + 1) * S.cmp_cost seq.old }
-    ensures kept { steps.old ≤ steps.new }
+    ensures monotone { steps.old ≤ steps.new }
     ensures same { S.sequence seq.new ≡ S.sequence seq.old }
     ensures same_cost { S.cmp_cost seq.new ≡ S.cmp_cost seq.old }
     ensures same_memory { S.takes_memory seq.new ≡ S.takes_memory seq.old }
@@ -68,7 +68,7 @@ fn gallop_from<S: IndexOrd<V>, V, L: Ledger>(
     ensures err { IfErr result (MemoryCause (S.takes_memory seq.old)) }
     ensures rise { IfOk result (λ i. steps.new ≤ steps.old + (2 * log_up (i - start + 1) + 1) * S.cmp_cost seq.old) }
     ensures most { steps.new ≤ steps.old + (2 * log_up (length (S.sequence seq.old) - start + 1) + 1) * S.cmp_cost seq.old }
-    ensures kept { steps.old ≤ steps.new }
+    ensures monotone { steps.old ≤ steps.new }
     ensures same { S.sequence seq.new ≡ S.sequence seq.old }
     ensures same_cost { S.cmp_cost seq.new ≡ S.cmp_cost seq.old }
     ensures same_memory { S.takes_memory seq.new ≡ S.takes_memory seq.old }
@@ -115,7 +115,7 @@ fn first_not_less<S: IndexOrd<V>, V, L: Ledger>(
     ensures ok { IfOk result (IsFirstFrom (standing S.stands (S.sequence seq.old) needle.now) low high) }
     ensures err { IfErr result (MemoryCause (S.takes_memory seq.old)) }
     ensures rise { steps.new ≤ steps.old + log_up (high - low + 1) * S.cmp_cost seq.old }
-    ensures kept { steps.old ≤ steps.new }
+    ensures monotone { steps.old ≤ steps.new }
     ensures same { S.sequence seq.new ≡ S.sequence seq.old }
     ensures same_cost { S.cmp_cost seq.new ≡ S.cmp_cost seq.old }
     ensures same_memory { S.takes_memory seq.new ≡ S.takes_memory seq.old }

@@ -40,7 +40,7 @@ pub trait IndexOrd<V> {
         ensures ok { IfOk result (λ o. o ≡ slice_get (standing stands (sequence self.old) elem.now) idx) }
         ensures err { IfErr result (MemoryCause (takes_memory self.old)) }
         ensures rise { steps.new ≤ steps.old + cmp_cost self.old }
-        ensures kept { steps.old ≤ steps.new }
+        ensures monotone { steps.old ≤ steps.new }
         ensures same { sequence self.new ≡ sequence self.old }
         ensures same_cost { cmp_cost self.new ≡ cmp_cost self.old }
         ensures same_memory { takes_memory self.new ≡ takes_memory self.old };
@@ -51,7 +51,7 @@ pub trait IndexOrd<V> {
         ensures ok { IfOk result (λ b. b ≡ is_some_and is_lt (slice_get (standing stands (sequence self.old) elem.now) idx)) }
         ensures err { IfErr result (MemoryCause (takes_memory self.old)) }
         ensures rise { steps.new ≤ steps.old + cmp_cost self.old }
-        ensures kept { steps.old ≤ steps.new }
+        ensures monotone { steps.old ≤ steps.new }
         ensures same { sequence self.new ≡ sequence self.old }
         ensures same_cost { cmp_cost self.new ≡ cmp_cost self.old }
         ensures same_memory { takes_memory self.new ≡ takes_memory self.old }
@@ -65,7 +65,7 @@ pub trait IndexOrd<V> {
         ensures ok { IfOk result (λ b. b ≡ is_some_and is_le (slice_get (standing stands (sequence self.old) elem.now) idx)) }
         ensures err { IfErr result (MemoryCause (takes_memory self.old)) }
         ensures rise { steps.new ≤ steps.old + cmp_cost self.old }
-        ensures kept { steps.old ≤ steps.new }
+        ensures monotone { steps.old ≤ steps.new }
         ensures same { sequence self.new ≡ sequence self.old }
         ensures same_cost { cmp_cost self.new ≡ cmp_cost self.old }
         ensures same_memory { takes_memory self.new ≡ takes_memory self.old }
@@ -82,7 +82,7 @@ pub trait IndexOrd<V> {
         ensures ok { IfOk result (λ b. b ≡ is_some_and is_gt (slice_get (standing stands (sequence self.old) elem.now) idx)) }
         ensures err { IfErr result (MemoryCause (takes_memory self.old)) }
         ensures rise { steps.new ≤ steps.old + cmp_cost self.old }
-        ensures kept { steps.old ≤ steps.new }
+        ensures monotone { steps.old ≤ steps.new }
         ensures same { sequence self.new ≡ sequence self.old }
         ensures same_cost { cmp_cost self.new ≡ cmp_cost self.old }
         ensures same_memory { takes_memory self.new ≡ takes_memory self.old }
@@ -96,7 +96,7 @@ pub trait IndexOrd<V> {
         ensures ok { IfOk result (λ b. b ≡ is_some_and is_ge (slice_get (standing stands (sequence self.old) elem.now) idx)) }
         ensures err { IfErr result (MemoryCause (takes_memory self.old)) }
         ensures rise { steps.new ≤ steps.old + cmp_cost self.old }
-        ensures kept { steps.old ≤ steps.new }
+        ensures monotone { steps.old ≤ steps.new }
         ensures same { sequence self.new ≡ sequence self.old }
         ensures same_cost { cmp_cost self.new ≡ cmp_cost self.old }
         ensures same_memory { takes_memory self.new ≡ takes_memory self.old }

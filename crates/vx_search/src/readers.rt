@@ -28,7 +28,7 @@ pub trait RowReader {
         ensures ok { IfOk result (λ x. slice_get (numbers self.old) i ≡ Some x) }
         ensures err { IfErr result (MemoryCause (takes_memory self.old)) }
         ensures rise { steps.new ≤ steps.old + read_cost self.old }
-        ensures kept { steps.old ≤ steps.new }
+        ensures monotone { steps.old ≤ steps.new }
         ensures same { numbers self.new ≡ numbers self.old }
         ensures same_cost { read_cost self.new ≡ read_cost self.old }
         ensures same_memory { takes_memory self.new ≡ takes_memory self.old };
@@ -76,7 +76,7 @@ impl<'a, T: NativeInt> RowReader for SliceReader<'a, T> {
         ensures err { IfErr result (MemoryCause false) }
         ensures cost { steps.new ≡ steps.old + 1 }
         ensures rise { steps.new ≤ steps.old + 1 }
-        ensures kept { steps.old ≤ steps.new }
+        ensures monotone { steps.old ≤ steps.new }
         ensures same { self.new ≡ self.old }
     {
         steps.tick();
@@ -135,7 +135,7 @@ impl<'a> RowReader for FlatReader<'a> {
         ensures err { IfErr result (MemoryCause false) }
         ensures cost { steps.new ≡ steps.old + 1 }
         ensures rise { steps.new ≤ steps.old + 1 }
-        ensures kept { steps.old ≤ steps.new }
+        ensures monotone { steps.old ≤ steps.new }
         ensures same { self.new ≡ self.old }
     {
         Ok(self.column.int_at(i, steps))

@@ -28,7 +28,7 @@ pub trait SearchSorted<T>: IndexOrd<T> + Sized {
         ensures ok { IfOk result (λ p. p ≡ place side (standing Self.stands (Self.sequence self.old) value.now)) }
         ensures err { IfErr result (MemoryCause (Self.takes_memory self.old)) }
         ensures rise { steps.new ≤ steps.old + search_bound (length (Self.sequence self.old)) * Self.cmp_cost self.old }
-        ensures kept { steps.old ≤ steps.new }
+        ensures monotone { steps.old ≤ steps.new }
         ensures same { Self.sequence self.new ≡ Self.sequence self.old }
         ensures same_cost { Self.cmp_cost self.new ≡ Self.cmp_cost self.old }
         ensures same_memory { Self.takes_memory self.new ≡ Self.takes_memory self.old }
@@ -61,7 +61,7 @@ pub trait SearchSorted<T>: IndexOrd<T> + Sized {
             IfErr result (λ e. RefusesBelow F.FnMut len (rounds len) find e ⊎ RefusesBelow N.FnMut len (rounds len) side_find e) }
         ensures rise { steps.new ≤ steps.old + search_bound (length (Self.sequence self.old)) }
         ensures least { IfOk result (λ _. steps.old + rounds (length (Self.sequence self.old)) ≤ steps.new) }
-        ensures kept { steps.old ≤ steps.new }
+        ensures monotone { steps.old ≤ steps.new }
         ensures same { Self.sequence self.new ≡ Self.sequence self.old }
         ensures same_cost { Self.cmp_cost self.new ≡ Self.cmp_cost self.old }
         ensures same_memory { Self.takes_memory self.new ≡ Self.takes_memory self.old }
@@ -84,7 +84,7 @@ fn search_both<S: IndexOrd<T>, T, L: Ledger>(
     ensures ok { IfOk result (λ p. p ≡ place side (standing S.stands (S.sequence seq.old) value.now)) }
     ensures err { IfErr result (MemoryCause (S.takes_memory seq.old)) }
     ensures rise { steps.new ≤ steps.old + search_bound (length (S.sequence seq.old)) * S.cmp_cost seq.old }
-    ensures kept { steps.old ≤ steps.new }
+    ensures monotone { steps.old ≤ steps.new }
     ensures same { S.sequence seq.new ≡ S.sequence seq.old }
     ensures same_cost { S.cmp_cost seq.new ≡ S.cmp_cost seq.old }
     ensures same_memory { S.takes_memory seq.new ≡ S.takes_memory seq.old }
@@ -124,7 +124,7 @@ fn ask<S: IndexOrd<T>, T, L: Ledger>(
     ensures ok { IfOk result (λ o. o ≡ asked_at question (standing S.stands (S.sequence seq.old) value.now) idx) }
     ensures err { IfErr result (MemoryCause (S.takes_memory seq.old)) }
     ensures rise { steps.new ≤ steps.old + S.cmp_cost seq.old }
-    ensures kept { steps.old ≤ steps.new }
+    ensures monotone { steps.old ≤ steps.new }
     ensures same { S.sequence seq.new ≡ S.sequence seq.old }
     ensures same_cost { S.cmp_cost seq.new ≡ S.cmp_cost seq.old }
     ensures same_memory { S.takes_memory seq.new ≡ S.takes_memory seq.old }
@@ -161,7 +161,7 @@ pub(crate) fn halve<S: IndexOrd<T>, T, L: Ledger>(
     ensures ok { IfOk result (IsWhere (asked_at question (standing S.stands (S.sequence seq.old) value.now)) from to) }
     ensures err { IfErr result (MemoryCause (S.takes_memory seq.old)) }
     ensures rise { steps.new ≤ steps.old + rounds (to - from) * S.cmp_cost seq.old }
-    ensures kept { steps.old ≤ steps.new }
+    ensures monotone { steps.old ≤ steps.new }
     ensures same { S.sequence seq.new ≡ S.sequence seq.old }
     ensures same_cost { S.cmp_cost seq.new ≡ S.cmp_cost seq.old }
     ensures same_memory { S.takes_memory seq.new ≡ S.takes_memory seq.old }

@@ -58,7 +58,7 @@ impl<'a, T: Ord> IndexOrd<T> for SortedSlice<'a, T> {
         ensures err { IfErr result (MemoryCause false) }
         ensures cost { steps.new ≡ steps.old + 1 }
         ensures rise { steps.new ≤ steps.old + 1 }
-        ensures kept { steps.old ≤ steps.new }
+        ensures monotone { steps.old ≤ steps.new }
         ensures same { self.new ≡ self.old }
     {
         steps.tick();

@@ -1,10 +1,10 @@
 -- Where neither end fails, the bytes decide the status, unless memory runs out.
 use Rattle.std.proofs.Common.{◌≡◌, ◌≤◌, ◌<◌, ℕ, List, length, Some, None, inl, inr, refl, sym, ◌∙◌, subst, arith}
 use Rattle.std.specs.declared.option.Option.{Option}
-use Rattle.vx_plan.specs.Plans.{Reaches, IsPlanError}
+use Rattle.vx_job.specs.Plans.{Reaches, IsPlanError}
 use Rattle.vx_plan.proofs.Headline.{no_error}
 use Rattle.vx_ends.specs.Moved.{taken_len, Tells}
-use Rattle.vx_json.specs.Job.{Asked}
+use Rattle.vx_job.specs.JobView.{JobView}
 use Rattle.vx_json.specs.Bytes.{HasNoJob}
 use Rattle.vx_json.proofs.Jobs.{one_job}
 use Rattle.vx_tool.specs.Outcome.{limit, AnswersBytes, Outcome, Replies, status_of, IsOwed, IsUnlessMemory}
@@ -25,10 +25,10 @@ reply_settles : (wanted : Status) (bytes : List ℕ) (r : Reply) (before after :
 reply_settles status.Ok bytes (reply.Page text) before after small a owed = refl
 reply_settles status.Ok bytes (reply.Refusal text) before after small a (job, answers, last, fits, is_job, reaches) =
     let same = one_job a.is_job is_job in
-    absurd (no_error job.parts job.plan answers last reaches a.answers.error (subst (λ (j : Asked). IsPlanError j.parts j.plan a.answers.error) same a.answers.admits))
+    absurd (no_error job.parts job.plan answers last reaches a.answers.error (subst (λ (j : JobView). IsPlanError j.parts j.plan a.answers.error) same a.answers.admits))
 reply_settles status.Refused bytes (reply.Page text) before after small a (job, error, fits, is_job, admits) =
     let same = one_job a.is_job is_job in
-    absurd (no_error job.parts job.plan a.answers.answers a.answers.last (subst (λ (j : Asked). Reaches j.parts j.plan a.answers.answers a.answers.last) same a.answers.reaches) error admits)
+    absurd (no_error job.parts job.plan a.answers.answers a.answers.last (subst (λ (j : JobView). Reaches j.parts j.plan a.answers.answers a.answers.last) same a.answers.reaches) error admits)
 reply_settles status.Refused bytes (reply.Refusal text) before after small a owed = refl
 reply_settles status.NotAJob bytes r before after small a owed = absurd (owed.1 a.job a.is_job)
 reply_settles status.TooLong bytes r before after small a owed = absurd (omega (arith, owed, small))

@@ -4,10 +4,10 @@ use Rattle.std.specs.declared.option.Option.{Option}
 use Rattle.std.specs.Io.KnownBytes.{Keeps, Appends, IsAtEnd}
 use Rattle.vx_rows.specs.declared.error.ColumnError.{ColumnError}
 use Rattle.vx_base.specs.Column.{Flat}
-use Rattle.vx_plan.specs.Plans.{Reaches, IsPlanError}
-use Rattle.vx_plan.specs.declared.page.Answer.{Answer}
+use Rattle.vx_job.specs.Plans.{Reaches, IsPlanError}
+use Rattle.vx_job.specs.declared.page.Answer.{Answer}
 use Rattle.vx_ends.specs.Moved.{taken_len, Tells, AppendsFront}
-use Rattle.vx_json.specs.Job.{Asked}
+use Rattle.vx_job.specs.JobView.{JobView}
 use Rattle.vx_json.specs.Bytes.{IsJobOf, HasNoJob}
 use Rattle.vx_tool.specs.Reply.{Answers}
 use Rattle.vx_tool.specs.declared.reply.Reply.{Reply}
@@ -21,7 +21,7 @@ limit = 67108864
 
 -- The bytes are a job, and the reply answers it.
 pub record AnswersBytes (bytes : List ℕ) (reply : Reply) (before after : ℕ) : Type 0 where
-  pub job : Asked
+  pub job : JobView
   pub is_job : IsJobOf bytes job
   pub answers : Answers job reply before after
 
@@ -100,8 +100,8 @@ Outcome status.TooLong left left' held held' before after = (IsSome left → lim
 
 -- a job that reaches its end, a job that has an error, bytes that are no job, and bytes above the limit: each has its status
 abbrev pub IsOwed : List ℕ → Status → Type 0
-IsOwed bytes status.Ok = (job : Asked) × (answers : List Answer) × (last : Flat) × (length bytes ≤ limit) × IsJobOf bytes job × Reaches job.parts job.plan answers last
-IsOwed bytes status.Refused = (job : Asked) × (error : ColumnError) × (length bytes ≤ limit) × IsJobOf bytes job × IsPlanError job.parts job.plan error
+IsOwed bytes status.Ok = (job : JobView) × (answers : List Answer) × (last : Flat) × (length bytes ≤ limit) × IsJobOf bytes job × Reaches job.parts job.plan answers last
+IsOwed bytes status.Refused = (job : JobView) × (error : ColumnError) × (length bytes ≤ limit) × IsJobOf bytes job × IsPlanError job.parts job.plan error
 IsOwed bytes status.NotAJob = (length bytes ≤ limit) × HasNoJob bytes
 IsOwed bytes status.TooLong = limit < length bytes
 IsOwed bytes status.Usage = ⊥

@@ -1,6 +1,6 @@
 //! From a job to the text that answers it.
 ghost use Rattle.std.specs.Prelude.{◌≡◌, ◌≤◌, IfOk, IsOkUnless, MatchOption};
-ghost use Rattle.vx_json.specs.Job.{asked};
+ghost use Rattle.vx_job.specs.JobView.{job_view};
 ghost use Rattle.vx_json.specs.Bytes.{HasNoJob};
 ghost use Rattle.vx_tool.specs.Reply.{Answers};
 ghost use Rattle.vx_tool.specs.Outcome.{AnswersBytes};
@@ -24,7 +24,7 @@ pub fn reply_to<L: Ledger>(alloc: Global, bytes: &[u8], steps: &mut Steps<L>) ->
     ensures ok { IfOk result (λ found. MatchOption found (HasNoJob bytes.now)
         (λ reply. AnswersBytes bytes.now reply steps.old steps.new)) }
     ensures err { IsOkUnless result ColumnError.OutOfMemory }
-    ensures kept { steps.old ≤ steps.new }
+    ensures monotone { steps.old ≤ steps.new }
 {
     let Some(job) = parse_job(alloc, bytes)? else {
         return Ok(None);
@@ -35,9 +35,9 @@ pub fn reply_to<L: Ledger>(alloc: Global, bytes: &[u8], steps: &mut Steps<L>) ->
 
 /// Runs the plan of a job, and prints its page or its refusal.
 fn answer<L: Ledger>(alloc: Global, job: Job, steps: &mut Steps<L>) -> Res<Reply>
-    ensures ok { IfOk result (λ reply. Answers (asked job) reply steps.old steps.new) }
+    ensures ok { IfOk result (λ reply. Answers (job_view job) reply steps.old steps.new) }
     ensures err { IsOkUnless result ColumnError.OutOfMemory }
-    ensures kept { steps.old ≤ steps.new }
+    ensures monotone { steps.old ≤ steps.new }
 {
     let Job { parts, plan } = job;
     match run_plan(alloc, parts, plan.as_slice(), steps) {

@@ -37,7 +37,7 @@ pub fn run_job<S: Source, K: Sink, L: Ledger>(
         → is_run_spec (map string_bytes words.now) ≡ true
         → ¬ Rose (S.faults source.old) (S.faults source.new) → ¬ Rose (K.faults sink.old) (K.faults sink.new)
         → IsUnlessMemory result wanted }
-    ensures kept { steps.old ≤ steps.new }
+    ensures monotone { steps.old ≤ steps.new }
     ensures reads_tell { TellsAsBefore (S.left source.old) (S.left source.new) }
     ensures writes_tell { TellsAsBefore (K.held sink.old) (K.held sink.new) }
     ensures reads_later { S.faults source.old ≤ S.faults source.new }
@@ -60,7 +60,7 @@ fn run_words<S: Source, K: Sink, L: Ledger>(
     ensures short { (result ≢ Status.TooLong) → taken_len (S.left source.old) (S.left source.new) ≤ limit }
     ensures read_fault { result ≡ Status.ReadFault → Rose (S.faults source.old) (S.faults source.new) }
     ensures write_fault { result ≡ Status.WriteFault → Rose (K.faults sink.old) (K.faults sink.new) }
-    ensures kept { steps.old ≤ steps.new }
+    ensures monotone { steps.old ≤ steps.new }
     ensures reads_tell { TellsAsBefore (S.left source.old) (S.left source.new) }
     ensures writes_tell { TellsAsBefore (K.held sink.old) (K.held sink.new) }
     ensures reads_later { S.faults source.old ≤ S.faults source.new }
@@ -86,7 +86,7 @@ fn read_reply<S: Source, L: Ledger>(
     ensures err { IfErr result (λ status. Stops status (S.left source.old) (S.left source.new)) }
     ensures short { (result ≢ Err Status.TooLong) → taken_len (S.left source.old) (S.left source.new) ≤ limit }
     ensures fault { IsErrOf result Status.ReadFault → Rose (S.faults source.old) (S.faults source.new) }
-    ensures kept { steps.old ≤ steps.new }
+    ensures monotone { steps.old ≤ steps.new }
     ensures tells { TellsAsBefore (S.left source.old) (S.left source.new) }
     ensures later { S.faults source.old ≤ S.faults source.new }
 {

@@ -47,7 +47,7 @@ LaneValueType i32:[1,2,3] 1 0 u32:[0,1] u16:[2] u8?:[null]
 LaneValueNull i32:[1,2,3] 1 0 u32:[0,1] u16:[2] i32?:[null]";
 
 /// The second value, or none, beside the first of 10 and 20; array numbers, row numbers.
-const RULES_OF_WOVEN_PARTS: &str = "\
+const RULES_OF_INTERLEAVED_PARTS: &str = "\
 TooFewValues null i8:[0] u8:[0,1]
 ValueTypes u8:[7] i8:[0] u8:[0,1]
 SelectorType i32?:[7] u8:[9] u8?:[0,1]
@@ -92,8 +92,8 @@ fn lanes(alloc: Global, line: &str) -> Result<String, AllocError> {
     )
 }
 
-/// A part woven of one value or two.
-fn woven(alloc: Global, line: &str) -> Result<String, AllocError> {
+/// A part interleaved of one value or two.
+fn interleaved(alloc: Global, line: &str) -> Result<String, AllocError> {
     let mut words = line.split(' ').skip(1);
     let first = part_of(alloc, Some("i32:[10,20]"))?;
     let second = part_of(alloc, words.next())?;
@@ -158,10 +158,10 @@ fn rules_of_lane_exceptions(rt: HostRuntime) -> Result<(), Fail> {
 }
 
 #[test]
-fn rules_of_woven_parts(rt: HostRuntime) -> Result<(), Fail> {
-    assert_eq!(rt; RULES_OF_WOVEN_PARTS.lines().count(), 6);
-    for line in RULES_OF_WOVEN_PARTS.lines() {
-        let part = woven(rt.alloc(), line)?;
+fn rules_of_interleaved_parts(rt: HostRuntime) -> Result<(), Fail> {
+    assert_eq!(rt; RULES_OF_INTERLEAVED_PARTS.lines().count(), 6);
+    for line in RULES_OF_INTERLEAVED_PARTS.lines() {
+        let part = interleaved(rt.alloc(), line)?;
         assert!(rt; breaks(&rt, line, part.as_str())?, "at {line}");
     }
     Ok(())
@@ -178,7 +178,7 @@ fn types_that_are_not_supported(rt: HostRuntime) -> Result<(), Fail> {
             alloc,
             "Unsupported binary:[\"\"] 1 0 u32:[0,0] u16:[] i32:[]",
         )?,
-        woven(alloc, "Unsupported utf8:[\"a\"] u8:[] u8:[]")?,
+        interleaved(alloc, "Unsupported utf8:[\"a\"] u8:[] u8:[]")?,
         format!(in alloc;
             "{{\"interleaved\":[{texts},{texts}],\"array_indices\":{texts},\"row_indices\":{texts}}}"
         )?,

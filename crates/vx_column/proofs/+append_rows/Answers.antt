@@ -25,7 +25,7 @@ column::Chunked+Column::append_rows-loop-chunk-preserved g t c =
       appended = c.in_ok-append_rows.ensures.ok ∙ ap (λ r. r ++ rows_of c.chunk-item.result) c.loop-chunk.invariant.appended
           ∙ append_assoc old (rows_in (take k xs)) (rows_of c.chunk-item.result) ∙ ap (λ r. old ++ r) (sym more);
       rise = append_next self xs k c.chunk-item.result c.args.steps.now c.loop-chunk.steps c.append_rows.new.steps c.children-chunk-items.ensures.value (omega arith) c.chunk-item.is c.loop-chunk.invariant.rise c.append_rows.ensures.rise;
-      kept = omega (arith, c.append_rows.ensures.kept, c.loop-chunk.invariant.kept);
+      monotone = omega (arith, c.append_rows.ensures.monotone, c.loop-chunk.invariant.monotone);
     }
 
 pub column::Chunked+Column::append_rows-returns-clause-ok : goal.column::Chunked+Column::append_rows-returns-clause-ok

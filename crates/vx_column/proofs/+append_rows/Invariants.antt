@@ -9,5 +9,5 @@ abbrev pub invariant-column::Chunked+Column::append_rows-loop-chunk : goal.invar
 invariant-column::Chunked+Column::append_rows-loop-chunk g l = record {
   appended : l.out ≡ l.initial.out ++ rows_in (take l.chunk-index l.chunk-items);
   rise : l.steps ≤ l.initial.steps + (8 * length (rows_in (take l.chunk-index l.chunk-items)) * point_cost (column.Chunked l.self) + total (map lane_cost (take l.chunk-index l.chunk-items)));
-  kept : l.initial.steps ≤ l.steps;
+  monotone : l.initial.steps ≤ l.steps;
 }

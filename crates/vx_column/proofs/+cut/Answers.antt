@@ -14,7 +14,7 @@ use Rattle.vx_lanes.specs.declared.layout.Layout.{Layout}
 use Rattle.vx_column.specs.Excepts.{IsKeptOf}
 use Rattle.vx_column.proofs.Layers.{lanes_here}
 use Rattle.vx_column.proofs.Excepts.{cut_kinds, cut_some, cut_none, rise_base, rise_values}
-use Rattle.vx_column.proofs.Patches.{IsLaneCut, lanes_slice, layout_long, cut_kinds as lane_kinds, cut_lanes}
+use Rattle.vx_column.proofs.LaneRows.{IsLaneCut, lanes_slice, layout_long, cut_kinds as lane_kinds, cut_lanes}
 use Rattle.vx_column.proofs.+cut.Goals as goal
 
 pub column::Chunked+Column::cut-returns-in_ok-share-in-Whole-clause-ok : goal.column::Chunked+Column::cut-returns-in_ok-share-in-Whole-clause-ok

@@ -1,7 +1,8 @@
 use Rattle.std.proofs.Common.{arith, ap, ◌∙◌, ◌+◌, length, map}
 use Rattle.std.proofs.lemmas.List.{take_all, length-map}
 use Rattle.vx_search.specs.Places.{search_bound}
-use Rattle.vx_column.specs.Columns.{greatest, cut_cost, len_of}
+use Rattle.vx_column.specs.Columns.{cut_cost, len_of}
+use Rattle.vx_job.specs.Rows.{greatest}
 use Rattle.vx_column.proofs.Cuts.{greatest_more, cut_cost_is}
 use Rattle.vx_column.proofs.+cut_cost.Goals as goal
 

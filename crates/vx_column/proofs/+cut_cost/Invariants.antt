@@ -1,5 +1,6 @@
 use Rattle.std.proofs.Common.{◌≡◌, ◌-◌, ◌^◌, min, map, take}
-use Rattle.vx_column.specs.Columns.{greatest, cut_cost}
+use Rattle.vx_column.specs.Columns.{cut_cost}
+use Rattle.vx_job.specs.Rows.{greatest}
 use Rattle.vx_column.proofs.+cut_cost.Given as goal
 
 abbrev pub invariant-column::Chunked+Column::cut_cost-loop-chunk : goal.invariant-column::Chunked+Column::cut_cost-loop-chunk

@@ -3,7 +3,7 @@ use Rattle.vx_column.specs.Columns.{point_cost, rows_of}
 use Rattle.vx_column.specs.declared.column.Column.{Column}
 use Rattle.vx_column.proofs.Cuts.{same_at, row_in, len_at, greatest_at, point_cost_is}
 use Rattle.vx_column.proofs.Layers.{point_interleave}
-use Rattle.vx_column.proofs.Patches.{row_some}
+use Rattle.vx_column.proofs.LaneRows.{row_some}
 use Rattle.vx_column.proofs.+is_valid.Goals as goal
 
 pub column::Chunked+Column::is_valid-returns-clause-value : goal.column::Chunked+Column::is_valid-returns-clause-value

@@ -1,7 +1,8 @@
 use Rattle.std.proofs.Common.{arith, ap, ◌∙◌, ◌+◌, length, map}
 use Rattle.std.proofs.lemmas.List.{take_all, length-map}
 use Rattle.vx_search.specs.Places.{search_bound}
-use Rattle.vx_column.specs.Columns.{greatest, point_cost, len_of}
+use Rattle.vx_column.specs.Columns.{point_cost, len_of}
+use Rattle.vx_job.specs.Rows.{greatest}
 use Rattle.vx_column.proofs.Cuts.{greatest_more, point_cost_is}
 use Rattle.vx_column.proofs.Layers.{lanes_here, point_interleave}
 use Rattle.vx_lanes.proofs.Entries.{lanes_some}

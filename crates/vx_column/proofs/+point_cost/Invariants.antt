@@ -1,5 +1,6 @@
 use Rattle.std.proofs.Common.{◌≡◌, ◌-◌, ◌^◌, min, map, take}
-use Rattle.vx_column.specs.Columns.{greatest, point_cost}
+use Rattle.vx_column.specs.Columns.{point_cost}
+use Rattle.vx_job.specs.Rows.{greatest}
 use Rattle.vx_column.proofs.+point_cost.Given as goal
 
 abbrev pub invariant-column::Chunked+Column::point_cost-loop-chunk : goal.invariant-column::Chunked+Column::point_cost-loop-chunk

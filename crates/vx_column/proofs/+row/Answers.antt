@@ -4,7 +4,7 @@ use Rattle.vx_column.specs.Columns.{rows_of, point_cost}
 use Rattle.vx_column.specs.declared.column.Column.TheVariants as column
 use Rattle.vx_column.proofs.Cuts.{same_at, row_in, len_at, greatest_at, point_cost_is}
 use Rattle.vx_column.proofs.Layers.{point_interleave}
-use Rattle.vx_column.proofs.Types.{woven_free}
+use Rattle.vx_column.proofs.Types.{interleaved_free}
 use Rattle.vx_column.proofs.+row.Goals as goal
 
 pub column::Chunked+Column::row-returns-clause-ok : goal.column::Chunked+Column::row-returns-clause-ok
@@ -32,7 +32,7 @@ interleave::Interleave+Column::row-returns-clause-free g t c light =
     let self = c.args.self.now in
     let x = c.index-values-value.result in
     let at_x = same_at c.children-values.result.now self.values c.named-value.result.0 x c.children-values.ensures.value c.index-values-value.is in
-    c.row.ensures.free (woven_free self c.named-value.result.0 x c.requires.sound c.named-value.ensures.value at_x light)
+    c.row.ensures.free (interleaved_free self c.named-value.result.0 x c.requires.sound c.named-value.ensures.value at_x light)
 
 pub interleave::Interleave+Column::row-returns-clause-rise : goal.interleave::Interleave+Column::row-returns-clause-rise
 interleave::Interleave+Column::row-returns-clause-rise g t c =

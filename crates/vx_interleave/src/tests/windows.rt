@@ -1,12 +1,12 @@
 //! Pairs, windows and handles.
-use super::woven;
+use super::interleaved;
 use std::test::Fail;
 use vx_base::{CountLedger, NoLedger, Steps};
 
 #[test]
 fn names_each_pair(rt: HostRuntime) -> Result<(), Fail> {
     let mut steps = Steps::new(&rt, CountLedger::new());
-    let whole = woven(rt.alloc())?;
+    let whole = interleaved(rt.alloc())?;
     let pairs = [(0, 1), (1, 0), (0, 0), (0, 1)];
     for i in 0..whole.len() {
         assert!(rt; Some(whole.pair_at(i, &mut steps)) == pairs.get(i).copied());
@@ -18,7 +18,7 @@ fn names_each_pair(rt: HostRuntime) -> Result<(), Fail> {
 #[test]
 fn windows_two_rows(rt: HostRuntime) -> Result<(), Fail> {
     let mut steps = Steps::new(&rt, NoLedger::new());
-    let whole = woven(rt.alloc())?;
+    let whole = interleaved(rt.alloc())?;
     assert_eq!(rt; whole.len(), 4);
     let part = whole.window(1..3)?;
     let pairs = [(1, 0), (0, 0)];
@@ -31,7 +31,7 @@ fn windows_two_rows(rt: HostRuntime) -> Result<(), Fail> {
 
 #[test]
 fn shares_its_parts(rt: HostRuntime) -> Result<(), Fail> {
-    let whole = woven(rt.alloc())?.share()?;
+    let whole = interleaved(rt.alloc())?.share()?;
     let counts = (whole.array_indices().len(), whole.row_indices().len());
     assert_eq!(rt; counts, (4, 4));
     Ok(())

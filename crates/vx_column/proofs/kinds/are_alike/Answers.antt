@@ -1,6 +1,6 @@
 use Rattle.std.proofs.Common.{◌≡◌, ◌∷◌, List, map, sym, subst}
 use Rattle.std.specs.List.{All}
-use Rattle.vx_column.specs.Kinds.{AreAlike}
+use Rattle.vx_job.specs.Kinds.{AreAlike}
 use Rattle.vx_column.specs.Columns.{type_of}
 use Rattle.vx_column.specs.declared.column.Column.{Column}
 use Rattle.vx_rows.specs.Types.{AlikeTypes}

@@ -1,5 +1,5 @@
 use Rattle.std.proofs.Common.{◌≡◌, drop, map}
-use Rattle.vx_column.specs.Kinds.{some_nullable}
+use Rattle.vx_job.specs.Kinds.{some_nullable}
 use Rattle.vx_column.specs.Columns.{type_of}
 use Rattle.vx_column.proofs.kinds.some_nullability.Given as goal
 

@@ -2,8 +2,8 @@ use Rattle.std.proofs.Common.{◌≡◌, ◌⊎◌, ◌≤◌, arith, ℕ, IsTru
 use Rattle.std.proofs.lemmas.Result.{IfOk-weaker, IfErr-weaker, err_from_is_err_and}
 use Rattle.vx_rows.specs.declared.error.ColumnError.TheVariants.{OutOfMemory}
 use Rattle.vx_column.specs.Columns.{flat_of, select_bound, is_plain}
-use Rattle.vx_plan.specs.Answered.{CostsNoMore}
-use Rattle.vx_plan.specs.Plans.{run_rows, Reached, Reaches, IsRunError, IsPlanError, rows_bound}
+use Rattle.vx_plan.specs.AnswersView.{CostsNoMore}
+use Rattle.vx_job.specs.Plans.{run_rows, Reached, Reaches, IsRunError, IsPlanError, rows_bound}
 use Rattle.vx_plan.proofs.Headline.{open_refused, first_sound, first_plain, first_reaches, first_error, first_bound, open_bound, first_select}
 use Rattle.vx_plan.proofs.run.open_and_run.Goals as goal
 

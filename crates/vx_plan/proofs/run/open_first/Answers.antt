@@ -2,7 +2,7 @@ use Rattle.std.proofs.Common.{◌≡◌, length, sym, ap, subst, arith}
 use Rattle.std.proofs.lemmas.Result.{IfOk-weaker, err_from_is_err_and}
 use Rattle.vx_column.proofs.Cuts.{same_at}
 use Rattle.vx_column.specs.declared.column.Column.{Column}
-use Rattle.vx_plan.specs.Parts.{IsFirst}
+use Rattle.vx_plan.specs.Opened.{IsFirst}
 use Rattle.vx_plan.proofs.Opened.{opened_length}
 use Rattle.vx_plan.proofs.Headline.{first_is, parts_error}
 use Rattle.vx_plan.proofs.run.open_first.Goals as goal

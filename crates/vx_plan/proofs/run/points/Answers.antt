@@ -2,7 +2,7 @@ use Rattle.std.proofs.Common.{◌<◌, ◌++◌, ◌∷◌, [], List, Option, No
 use Rattle.vx_rows.specs.declared.value.Value.{Value}
 use Rattle.vx_column.specs.declared.column.Column.{Column}
 use Rattle.vx_column.specs.Columns.{rows_of, len_of, point_cost}
-use Rattle.vx_plan.specs.Plans.{picked}
+use Rattle.vx_job.specs.Steps.{picked}
 use Rattle.vx_plan.proofs.Runs.{picked_more, any_more}
 use Rattle.vx_plan.proofs.run.points.Goals as goal
 
@@ -22,5 +22,5 @@ loop-number-preserved g c =
           ∙ sym (picked_more (rows_of column) numbers k (omega arith));
       inside = any_more (len_of column) numbers k (omega arith) inv.inside (subst (λ (x : Column). get_or numbers k 0 < len_of x) inv.reads read.inside);
       rise = omega (arith, c.execute_scalar.ensures.rise, inv.rise, ap point_cost inv.reads);
-      kept = omega (arith, c.execute_scalar.ensures.kept, inv.kept);
+      monotone = omega (arith, c.execute_scalar.ensures.monotone, inv.monotone);
     }

@@ -1,7 +1,8 @@
 use Rattle.std.proofs.Common.{◌≡◌, ◌+◌, ◌*◌, ◌≤◌, take, false}
 use Rattle.vx_column.specs.Columns.{rows_of, len_of, point_cost}
 use Rattle.vx_column.specs.Probes.{probed}
-use Rattle.vx_plan.specs.Plans.{picked, any_past}
+use Rattle.vx_job.specs.Plans.{any_past}
+use Rattle.vx_job.specs.Steps.{picked}
 use Rattle.vx_plan.proofs.run.points.Given as goal
 
 abbrev pub invariant-loop-number : goal.invariant-loop-number
@@ -10,5 +11,5 @@ invariant-loop-number g l = record {
   answer : l.rows ≡ picked (rows_of l.column) (take l.number-index l.numbers);
   inside : any_past (len_of l.column) (take l.number-index l.numbers) ≡ false;
   rise : l.steps ≤ l.initial.steps + l.number-index * point_cost l.column;
-  kept : l.initial.steps ≤ l.steps;
+  monotone : l.initial.steps ≤ l.steps;
 }

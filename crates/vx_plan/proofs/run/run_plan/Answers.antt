@@ -1,7 +1,7 @@
 use Rattle.std.proofs.Common.{◌≡◌, ◌⊎◌}
 use Rattle.std.proofs.lemmas.Result.{IfErr-weaker}
 use Rattle.vx_rows.specs.declared.error.ColumnError.TheVariants.{OutOfMemory}
-use Rattle.vx_plan.specs.Plans.{IsPlanError}
+use Rattle.vx_job.specs.Plans.{IsPlanError}
 use Rattle.vx_plan.proofs.Headline.{only_memory}
 use Rattle.vx_plan.proofs.run.run_plan.Goals as goal
 

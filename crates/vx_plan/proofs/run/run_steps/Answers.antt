@@ -2,8 +2,9 @@ use Rattle.std.proofs.Common.{◌+◌, List, drop, ap, ◌∙◌, arith}
 use Rattle.std.proofs.lemmas.Result.{err_from_is_err_and}
 use Rattle.vx_base.specs.Column.{Flat}
 use Rattle.vx_column.specs.Columns.{flat_of, point_cost}
-use Rattle.vx_plan.specs.declared.page.Answer.{Answer}
-use Rattle.vx_plan.specs.Plans.{with_answers, run_from, step_leaves}
+use Rattle.vx_job.specs.declared.page.Answer.{Answer}
+use Rattle.vx_job.specs.Plans.{with_answers, run_from}
+use Rattle.vx_job.specs.Steps.{step_leaves}
 use Rattle.vx_plan.proofs.Runs.{rise_at, stop_at, step_at, cost_less, costs_on}
 use Rattle.vx_plan.proofs.run.run_steps.Goals as goal
 
@@ -38,5 +39,5 @@ loop-step-preserved g c =
       costs = costs_on c.args.first c.loop-step.column c.in_ok-column.column inv.costs taken.costs;
       rise = (rise_at point plan k step c.args.steps.now c.loop-step.steps c.take_step.new.steps (omega arith) c.step-item.is inv.rise
           (omega (arith, c.take_step.ensures.rise, cost_less (point_cost c.loop-step.column) point step inv.costs.point))).0;
-      kept = omega (arith, c.take_step.ensures.kept, inv.kept);
+      monotone = omega (arith, c.take_step.ensures.monotone, inv.monotone);
     }

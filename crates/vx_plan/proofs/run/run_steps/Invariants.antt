@@ -1,7 +1,7 @@
 use Rattle.std.proofs.Common.{◌≡◌, ◌+◌, ◌≤◌, take, drop}
 use Rattle.vx_column.specs.Columns.{flat_of, IsSound, point_cost}
-use Rattle.vx_plan.specs.Answered.{CostsNoMore}
-use Rattle.vx_plan.specs.Plans.{with_answers, run_from, run_rows, plan_cost}
+use Rattle.vx_plan.specs.AnswersView.{CostsNoMore}
+use Rattle.vx_job.specs.Plans.{with_answers, run_from, run_rows, plan_cost}
 use Rattle.vx_plan.proofs.run.run_steps.Given as goal
 
 abbrev pub invariant-loop-step : goal.invariant-loop-step
@@ -10,5 +10,5 @@ invariant-loop-step g l = record {
   sound : IsSound l.column;
   costs : CostsNoMore l.fn.first l.column;
   rise : l.steps ≤ l.initial.steps + plan_cost (point_cost l.fn.first) (take l.step-index l.plan);
-  kept : l.initial.steps ≤ l.steps;
+  monotone : l.initial.steps ≤ l.steps;
 }

@@ -3,7 +3,7 @@ use Rattle.std.proofs.Math.Nat.{le_refl}
 use Rattle.vx_base.specs.Ranges.{ends_cut}
 use Rattle.vx_column.specs.Columns.{len_of, point_cost, cut_cost}
 use Rattle.vx_column.proofs.Cuts.{cut_at_most_twice}
-use Rattle.vx_plan.specs.Plans.{step_cost}
+use Rattle.vx_job.specs.Steps.{step_cost}
 use Rattle.vx_plan.proofs.Runs.{slice_rise, ends_at_most_two}
 use Rattle.vx_plan.proofs.run.take_step.Goals as goal
 

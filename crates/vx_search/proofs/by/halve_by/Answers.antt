@@ -22,7 +22,7 @@ loop-size-init g c =
         halved_start f c.args.from c.args.to (omega arith),
       );
       asked = (0, omega arith, refl);
-      kept = omega arith;
+      monotone = omega arith;
       spent = omega arith;
       least = omega arith;
     }
@@ -58,7 +58,7 @@ loop-size-preserved g c =
             ],
           );
       asked = (suc asked.0, omega (arith, fewer, asked.1), (c.loop-size.find, base + half, c.ask_by.result, omega arith, c.ask_by.ensures.called, asked.2));
-      kept = omega arith;
+      monotone = omega arith;
       spent = spent_more c.loop-size.steps c.ask_by.new.steps c.args.steps.now 1 size (size - half) (c.args.to - c.args.from) (omega arith) (omega arith) c.loop-size.invariant.spent (omega (arith, c.ask_by.ensures.cost));
       least = omega (arith, log_doubled size (size - half) (omega arith), c.loop-size.invariant.least, c.ask_by.ensures.cost);
     }

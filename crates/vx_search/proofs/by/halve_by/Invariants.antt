@@ -14,7 +14,7 @@ invariant-loop-size g l = record {
   halved : (f : ℕ → Ordering) → AnswersBelow g.F.FnMut l.to (λ k r. IfOk r (λ o. o ≡ f k)) (rounds (l.to - l.from)) l.fn.find → Ascends f l.to
       → AnswersBelow g.F.FnMut l.to (λ k r. IfOk r (λ o. o ≡ f k)) (log_up l.size + 1) l.find × IsHalved f l.from l.to l.base l.size;
   asked : (made : ℕ) × (made + log_up l.size ≤ log_up (l.to - l.from)) × Reaches g.F.FnMut l.to l.fn.find made l.find;
-  kept : l.fn.steps ≤ l.steps;
+  monotone : l.fn.steps ≤ l.steps;
   spent : l.steps + log_up l.size * 1 ≤ l.fn.steps + log_up (l.to - l.from) * 1;
   least : l.fn.steps + log_up (l.to - l.from) ≤ l.steps + log_up l.size;
 }

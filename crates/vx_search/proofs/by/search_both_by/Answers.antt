@@ -75,8 +75,8 @@ pub returns-clause-least : goal.returns-clause-least
 returns-clause-least g c =
     let P : ℕ → Type 0 = λ s. c.args.steps.now + rounds c.args.len ≤ s in
     elim c.match-side.branch [
-      | in-Left+in_ok-edge-in-Left w ↦ subst P (sym w.steps-is) (least_by c.args.steps.now c.halve_by.new.steps w.halve_by-in-Left.new.steps c.args.len w.halve_by-in-Left.ensures.kept c.in_ok-place.ensures.least)
-      | in-Right+in_ok-edge-in-Right w ↦ subst P (sym w.steps-is) (least_by c.args.steps.now c.halve_by.new.steps w.halve_by-in-Right.new.steps c.args.len w.halve_by-in-Right.ensures.kept c.in_ok-place.ensures.least)
+      | in-Left+in_ok-edge-in-Left w ↦ subst P (sym w.steps-is) (least_by c.args.steps.now c.halve_by.new.steps w.halve_by-in-Left.new.steps c.args.len w.halve_by-in-Left.ensures.monotone c.in_ok-place.ensures.least)
+      | in-Right+in_ok-edge-in-Right w ↦ subst P (sym w.steps-is) (least_by c.args.steps.now c.halve_by.new.steps w.halve_by-in-Right.new.steps c.args.len w.halve_by-in-Right.ensures.monotone c.in_ok-place.ensures.least)
     ]
 
 pub returns-clause-ok : goal.returns-clause-ok

@@ -34,7 +34,7 @@ loop-first-preserved-then-branch g c =
       same = search rules;
       same_cost = search rules;
       same_memory = search rules;
-      kept = omega arith;
+      monotone = omega arith;
       spent = spent_more c.loop-first.steps c.index_lt.new.steps c.args.steps.now (g.S.IndexOrd.cmp_cost c.args.seq.now) size (c.loop-first.end - (middle + 1) + 1) (c.args.high - c.args.low + 1)
           (omega arith) (omega arith) c.loop-first.invariant.spent (omega (arith, c.index_lt.ensures.rise, c.loop-first.invariant.same_cost));
     }
@@ -57,7 +57,7 @@ loop-first-preserved g c =
       same = search rules;
       same_cost = search rules;
       same_memory = search rules;
-      kept = omega arith;
+      monotone = omega arith;
       spent = spent_more c.loop-first.steps c.index_lt.new.steps c.args.steps.now (g.S.IndexOrd.cmp_cost c.args.seq.now) size (middle - c.loop-first.first + 1) (c.args.high - c.args.low + 1)
           (omega arith) (omega arith) c.loop-first.invariant.spent (omega (arith, c.index_lt.ensures.rise, c.loop-first.invariant.same_cost));
     }

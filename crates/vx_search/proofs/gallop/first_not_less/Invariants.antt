@@ -15,7 +15,7 @@ invariant-loop-first g l = record {
   same : g.S.IndexOrd.sequence l.seq ≡ g.S.IndexOrd.sequence l.fn.seq;
   same_cost : g.S.IndexOrd.cmp_cost l.seq ≡ g.S.IndexOrd.cmp_cost l.fn.seq;
   same_memory : g.S.IndexOrd.takes_memory l.seq ≡ g.S.IndexOrd.takes_memory l.fn.seq;
-  kept : l.fn.steps ≤ l.steps;
+  monotone : l.fn.steps ≤ l.steps;
   spent : l.steps + log_up (l.end - l.first + 1) * g.S.IndexOrd.cmp_cost l.fn.seq ≤ l.fn.steps + log_up (l.high - l.low + 1) * g.S.IndexOrd.cmp_cost l.fn.seq;
 }
 

@@ -30,7 +30,7 @@ loop-stride-preserved g c =
       same = search rules;
       same_cost = search rules;
       same_memory = search rules;
-      kept = omega arith;
+      monotone = omega arith;
       spent = subst (λ n. c.index_lt.new.steps ≤ c.args.steps.now + rounds n * cost) (sym moved)
           (omega (arith, c.loop-stride.invariant.spent, c.index_lt.ensures.rise, c.loop-stride.invariant.same_cost, mul-le-mul_right cost (gallop_rounds limit stride w c.loop-stride.invariant.gallop (omega arith))));
     }

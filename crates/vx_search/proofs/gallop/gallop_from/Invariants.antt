@@ -14,7 +14,7 @@ invariant-loop-stride g l = record {
   same : g.S.IndexOrd.sequence l.seq ≡ g.S.IndexOrd.sequence l.fn.seq;
   same_cost : g.S.IndexOrd.cmp_cost l.seq ≡ g.S.IndexOrd.cmp_cost l.fn.seq;
   same_memory : g.S.IndexOrd.takes_memory l.seq ≡ g.S.IndexOrd.takes_memory l.fn.seq;
-  kept : l.fn.steps ≤ l.steps;
+  monotone : l.fn.steps ≤ l.steps;
   spent : l.steps ≤ l.fn.steps + rounds (l.low - l.start) * g.S.IndexOrd.cmp_cost l.fn.seq;
 }
 

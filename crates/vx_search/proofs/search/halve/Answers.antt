@@ -22,7 +22,7 @@ loop-size-preserved g c =
       same = search rules;
       same_cost = search rules;
       same_memory = search rules;
-      kept = omega arith;
+      monotone = omega arith;
       spent = spent_more c.loop-size.steps c.ask.new.steps c.args.steps.now (g.S.IndexOrd.cmp_cost c.args.seq.now) size (size - half) (c.args.to - c.args.from) (omega arith) (omega arith) c.loop-size.invariant.spent (omega (arith, c.ask.ensures.rise, c.loop-size.invariant.same_cost));
     }
 

@@ -1,8 +1,8 @@
 use Rattle.std.proofs.Common.{◌∙◌, ap, subst, arith, List}
 use Rattle.vx_column.specs.Columns.{flat_of, len_of}
-use Rattle.vx_plan.specs.Plans.{Reaches, plan_bound}
-use Rattle.vx_plan.specs.Shown.{Shown}
-use Rattle.vx_plan.specs.declared.step.Step.{Step}
+use Rattle.vx_job.specs.Plans.{Reaches, plan_bound}
+use Rattle.vx_job.specs.PageView.{PageView}
+use Rattle.vx_job.specs.declared.step.Step.{Step}
 use Rattle.vx_json.specs.Bytes.{line}
 use Rattle.vx_json.specs.PageJson.{page_json}
 use Rattle.vx_tool.proofs.reply.answer.Goals as goal
@@ -17,6 +17,6 @@ returns-in-Ok-clause-ok g c =
       answers = given.answers;
       last = last;
       reaches = subst (λ (p : List Step). Reaches parts p given.answers last) plan c.in-Ok.ensures.ok;
-      written = c.from_vec.ensures ∙ c.in_ok-text-in-Ok.ensures.ok ∙ ap (λ (p : Shown). line (page_json p)) c.in_ok-page-in-Ok.ensures.ok;
+      written = c.from_vec.ensures ∙ c.in_ok-text-in-Ok.ensures.ok ∙ ap (λ (p : PageView). line (page_json p)) c.in_ok-page-in-Ok.ensures.ok;
       rise = omega (arith, c.in-Ok.ensures.rise, c.into_rows.ensures.rise, c.in-Ok.ensures.select (len_of given.column), ap (plan_bound parts) plan);
     }

@@ -9,5 +9,5 @@ returns-in_err-row-clause-rise g c =
     let next : c.loop-at.at + 1 ≤ len_of self = omega (arith, c.len-at-end.ensures) in
     omega (arith, c.row.ensures.rise, c.loop-at.invariant.rise, mul-le-mul next (le_refl (point_cost self)))
 
-pub returns-in_err-row-clause-kept : goal.returns-in_err-row-clause-kept
-returns-in_err-row-clause-kept g c = omega (arith, c.row.ensures.kept, c.loop-at.invariant.kept)
+pub returns-in_err-row-clause-monotone : goal.returns-in_err-row-clause-monotone
+returns-in_err-row-clause-monotone g c = omega (arith, c.row.ensures.monotone, c.loop-at.invariant.monotone)

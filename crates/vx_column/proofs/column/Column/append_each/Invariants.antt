@@ -6,5 +6,5 @@ abbrev pub invariant-loop-at : goal.invariant-loop-at
 invariant-loop-at g l = record {
   appended : l.out ≡ l.initial.out ++ take l.at (rows_of l.self);
   rise : l.steps ≤ l.initial.steps + l.at * point_cost l.self;
-  kept : l.initial.steps ≤ l.steps;
+  monotone : l.initial.steps ≤ l.steps;
 }

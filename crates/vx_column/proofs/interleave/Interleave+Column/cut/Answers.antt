@@ -1,15 +1,15 @@
 use Rattle.std.proofs.Common.{arith}
-use Rattle.vx_column.proofs.Layers.{woven_here}
-use Rattle.vx_column.proofs.Weaves.{len_woven, cut_woven, whole_woven}
+use Rattle.vx_column.proofs.Layers.{interleaved_here}
+use Rattle.vx_column.proofs.Interleaves.{len_interleaved, cut_interleaved, whole_interleaved}
 use Rattle.vx_column.proofs.interleave.Interleave+Column.cut.Goals as goal
 
 pub window-requires-clause-inside : goal.window-requires-clause-inside
 window-requires-clause-inside c =
     let self = c.args.self.now in
-    omega (arith, c.requires.inside, len_woven self (woven_here self c.requires.sound).sound)
+    omega (arith, c.requires.inside, len_interleaved self (interleaved_here self c.requires.sound).sound)
 
 pub returns-clause-ok : goal.returns-clause-ok
-returns-clause-ok c = cut_woven c.args.self.now _ c.args.start c.args.end c.requires.sound c.in_ok-dtype.ensures.ok c.in_ok-selectors.ensures.ok c.in_ok-values.ensures
+returns-clause-ok c = cut_interleaved c.args.self.now _ c.args.start c.args.end c.requires.sound c.in_ok-dtype.ensures.ok c.in_ok-selectors.ensures.ok c.in_ok-values.ensures
 
 pub returns-clause-same : goal.returns-clause-same
-returns-clause-same c whole = whole_woven c.args.self.now _ c.args.start c.args.end c.requires.sound c.in_ok-dtype.ensures.ok c.in_ok-selectors.ensures.ok c.in_ok-values.ensures whole
+returns-clause-same c whole = whole_interleaved c.args.self.now _ c.args.start c.args.end c.requires.sound c.in_ok-dtype.ensures.ok c.in_ok-selectors.ensures.ok c.in_ok-values.ensures whole

@@ -1,5 +1,5 @@
-use Rattle.vx_column.proofs.Layers.{woven_here}
-use Rattle.vx_column.proofs.Weaves.{row_named, value_named}
+use Rattle.vx_column.proofs.Layers.{interleaved_here}
+use Rattle.vx_column.proofs.Interleaves.{row_named, value_named}
 use Rattle.vx_column.proofs.interleave.Interleave+Column.named.Goals as goal
 
 pub pair_at-requires : goal.pair_at-requires
@@ -18,4 +18,4 @@ returns-clause-inside g c =
 pub returns-clause-row : goal.returns-clause-row
 returns-clause-row g c =
     let named = value_named c.args.self.now c.args.at c.requires.sound c.requires.inside in
-    rw (c.pair_at.ensures.array, c.pair_at.ensures.row) (row_named c.args.self.now c.args.at (woven_here c.args.self.now c.requires.sound).sound named.0)
+    rw (c.pair_at.ensures.array, c.pair_at.ensures.row) (row_named c.args.self.now c.args.at (interleaved_here c.args.self.now c.requires.sound).sound named.0)

@@ -1,7 +1,7 @@
 use Rattle.std.proofs.Common.{ap, sym, subst, ◌∙◌}
 use Rattle.vx_column.specs.Columns.{IsSound, type_of, len_of}
 use Rattle.vx_column.proofs.Layers.{inner_held, type_patched}
-use Rattle.vx_column.proofs.Patches.{len_patched}
+use Rattle.vx_column.proofs.LaneRows.{len_patched}
 use Rattle.vx_column.proofs.patched.Patched+Column.inner.Goals as goal
 
 pub returns-clause-sound : goal.returns-clause-sound

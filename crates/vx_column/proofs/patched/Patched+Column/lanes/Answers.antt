@@ -1,5 +1,5 @@
 use Rattle.vx_column.proofs.Layers.{lanes_here}
-use Rattle.vx_column.proofs.Patches.{layout_long}
+use Rattle.vx_column.proofs.LaneRows.{layout_long}
 use Rattle.vx_column.proofs.patched.Patched+Column.lanes.Goals as goal
 
 pub returns-clause-sound : goal.returns-clause-sound

@@ -1,5 +1,5 @@
 use Rattle.std.proofs.Common.{sym, subst}
-use Rattle.vx_column.specs.Kinds.{AreLaneKinds}
+use Rattle.vx_job.specs.Kinds.{AreLaneKinds}
 use Rattle.vx_column.specs.Columns.{IsSound, type_of, len_of}
 use Rattle.vx_column.proofs.Layers.{patched_made}
 use Rattle.vx_column.proofs.patched.Patched+Column.of.Goals as goal

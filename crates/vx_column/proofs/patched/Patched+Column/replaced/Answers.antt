@@ -5,7 +5,7 @@ use Rattle.vx_lanes.specs.Layouts.{exception_of}
 use Rattle.vx_lanes.specs.declared.layout.Layout.{Layout}
 use Rattle.vx_column.specs.Columns.{rows_of}
 use Rattle.vx_column.specs.declared.column.Column.TheVariants as column
-use Rattle.vx_column.proofs.Patches.{row_absent, row_kept, row_replaced, value_stands}
+use Rattle.vx_column.proofs.LaneRows.{row_absent, row_kept, row_replaced, value_stands}
 use Rattle.vx_column.proofs.patched.Patched+Column.replaced.Goals as goal
 
 pub returns-then-is_none-clause-ok : goal.returns-then-is_none-clause-ok

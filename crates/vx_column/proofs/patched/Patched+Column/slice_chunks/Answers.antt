@@ -6,7 +6,7 @@ use Rattle.vx_column.specs.Columns.{IsSliceOf, first_covered, end_covered, len_o
 use Rattle.vx_column.specs.declared.column.Column.{Column}
 use Rattle.vx_column.proofs.Layers.{lanes_here}
 use Rattle.vx_column.proofs.Lists.{ends_cut_most}
-use Rattle.vx_column.proofs.Patches.{IsLaneCut, lanes_chunks, cut_kinds, cut_lanes, rise_most}
+use Rattle.vx_column.proofs.LaneRows.{IsLaneCut, lanes_chunks, cut_kinds, cut_lanes, rise_most}
 use Rattle.vx_column.proofs.patched.Patched+Column.slice_chunks.Goals as goal
 
 pub returns-in_err-inner-clause-rise : goal.returns-in_err-inner-clause-rise

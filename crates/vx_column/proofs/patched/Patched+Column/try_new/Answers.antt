@@ -4,7 +4,7 @@ use Rattle.vx_rows.specs.declared.dtype.DType.{DType}
 use Rattle.vx_base.specs.Numbers.{is_integer}
 use Rattle.vx_lanes.specs.Layouts.{layout}
 use Rattle.vx_lanes.specs.Rules.{IsFirstBroken}
-use Rattle.vx_column.specs.Faults.Fault.{Broken}
+use Rattle.vx_job.specs.Faults.Fault.{Broken}
 use Rattle.vx_column.specs.Columns.{type_of}
 use Rattle.vx_column.proofs.Faulty.{layout_told, fault_broken, fault_none}
 use Rattle.vx_column.proofs.patched.Patched+Column.try_new.Goals as goal

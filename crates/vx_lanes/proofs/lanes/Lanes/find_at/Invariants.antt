@@ -10,5 +10,5 @@ invariant-loop-exception g l = record {
   end : l.exception-end ≡ lane_start l.self (entry_at l.self l.place + 1);
   within : l.exception - lane_start l.self (entry_at l.self l.place) ≤ lane_start l.self (entry_at l.self l.place + 1) - lane_start l.self (entry_at l.self l.place);
   rise : l.steps ≤ l.initial.steps + (l.exception - lane_start l.self (entry_at l.self l.place));
-  kept : l.initial.steps ≤ l.steps;
+  monotone : l.initial.steps ≤ l.steps;
 }

@@ -15,7 +15,7 @@ loop-exception-init g c =
       past = omega arith;
       within = omega (arith, c.requires.from, c.requires.to, up);
       rise = omega arith;
-      kept = omega arith;
+      monotone = omega arith;
     }
 
 pub index_at-requires : goal.index_at-requires
@@ -41,7 +41,7 @@ loop-exception-preserved g c =
     let b : Belongs l c.args.entry k = record { from = omega (arith, c.requires.from); below = omega (arith, c.requires.to) } in
     let place : c.args.entry / c.n_lanes.result * 1024 + c.index_at.result ≡ stands_at l c.args.entry k = cc in
     let cost : c.lay.new.steps + covered l k (length c.args.rows.now) ≤ c.index_at.new.steps + covered l (k + 1) (length c.args.rows.now) =
-    cost_more l c.args.entry k (length c.args.rows.now) c.index_at.new.steps c.lay.new.steps s c.requires.rows c.requires.entry b c.lay.ensures.kept (λ h. c.lay.ensures.inside (omega arith)) (λ h. c.lay.ensures.below (omega arith)) (λ h. c.lay.ensures.above (omega arith)) in
+    cost_more l c.args.entry k (length c.args.rows.now) c.index_at.new.steps c.lay.new.steps s c.requires.rows c.requires.entry b c.lay.ensures.monotone (λ h. c.lay.ensures.inside (omega arith)) (λ h. c.lay.ensures.below (omega arith)) (λ h. c.lay.ensures.above (omega arith)) in
     record {
       len = c.lay.ensures.len ∙ c.loop-exception.invariant.len;
       rows = λ bare e. laid_more l c.args.entry k bare c.loop-exception.rows c.lay.new.rows s (omega (arith, c.loop-exception.invariant.len, c.requires.rows)) c.requires.entry b (c.loop-exception.invariant.rows bare e) c.lay.ensures.len
@@ -49,7 +49,7 @@ loop-exception-preserved g c =
       past = omega (arith, c.loop-exception.invariant.past);
       within = omega arith;
       rise = omega (arith, cost, c.loop-exception.invariant.rise, c.index_at.ensures.cost, c.loop-exception.invariant.past);
-      kept = omega (arith, c.lay.ensures.kept, c.loop-exception.invariant.kept, c.index_at.ensures.cost);
+      monotone = omega (arith, c.lay.ensures.monotone, c.loop-exception.invariant.monotone, c.index_at.ensures.cost);
     }
 
 pub returns-clause-rows : goal.returns-clause-rows

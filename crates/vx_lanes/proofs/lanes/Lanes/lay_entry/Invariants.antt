@@ -10,5 +10,5 @@ invariant-loop-exception g l = record {
   past : l.from ≤ l.exception;
   within : l.exception ≤ l.to;
   rise : l.steps + covered l.self l.from (length l.fn.rows) ≤ l.fn.steps + (l.exception - l.from) + covered l.self l.exception (length l.fn.rows);
-  kept : l.fn.steps ≤ l.steps;
+  monotone : l.fn.steps ≤ l.steps;
 }

@@ -12,7 +12,7 @@ loop-entry-init g c = record {
   rows = laid_before c.args.self.now c.lane_offset_at-from.result c.args.rows.now c.entry_count-count.ensures.layout c.requires c.lane_offset_at-from.ensures.offset;
   past = omega (arith, c.lane_offset_at-from.ensures.offset);
   rise = omega arith;
-  kept = omega arith;
+  monotone = omega arith;
 }
 
 pub loop-entry-preserved : goal.loop-entry-preserved
@@ -28,7 +28,7 @@ loop-entry-preserved g c =
       rows = c.lay_entry.ensures.rows c.args.rows.now c.loop-entry.invariant.rows;
       past = omega (arith, up, c.loop-entry.invariant.past, c.loop-entry.invariant.from, c.lane_offset_at-to.ensures.offset);
       rise = omega (arith, up, before, after, c.lay_entry.ensures.rise, c.loop-entry.invariant.rise, c.loop-entry.invariant.past, c.loop-entry.invariant.from, c.lane_offset_at-to.ensures.offset, c.lane_offset_at-to.ensures.cost);
-      kept = omega (arith, c.lay_entry.ensures.kept, c.loop-entry.invariant.kept, c.lane_offset_at-to.ensures.cost);
+      monotone = omega (arith, c.lay_entry.ensures.monotone, c.loop-entry.invariant.monotone, c.lane_offset_at-to.ensures.cost);
     }
 
 pub returns-clause-rows : goal.returns-clause-rows

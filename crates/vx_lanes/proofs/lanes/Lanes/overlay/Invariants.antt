@@ -9,5 +9,5 @@ invariant-loop-entry g l = record {
   rows : l.rows ≡ overlaid_below l.self l.from l.fn.rows;
   past : lane_start l.self 0 ≤ l.from;
   rise : l.steps ≤ l.fn.steps + 1 + l.entry + (l.from - lane_start l.self 0) + covered l.self l.from (length l.fn.rows);
-  kept : l.fn.steps ≤ l.steps;
+  monotone : l.fn.steps ≤ l.steps;
 }

@@ -19,7 +19,7 @@ loop-entry-init g c =
         | inl none ↦ omega (arith, c.start_of-from.ensures.last none)
         | inr some ↦ let one : 1 ≤ entries c.args.self.now = omega (arith, some) in omega (arith, c.start_of-from.ensures.rise)
       ];
-      kept = omega (arith, c.start_of-from.ensures.kept);
+      monotone = omega (arith, c.start_of-from.ensures.monotone);
     }
 
 pub entry_faults-faults-requires-clause-ordered : goal.entry_faults-faults-requires-clause-ordered
@@ -51,7 +51,7 @@ loop-entry-preserved g c =
         | inl last ↦ omega (arith, cost, c.start_of-to.ensures.last last, c.loop-entry.invariant.most)
         | inr more ↦ let two : k + 2 ≤ entries l = omega (arith, more) in omega (arith, cost, c.start_of-to.ensures.rise, c.loop-entry.invariant.rise)
       ];
-      kept = omega (arith, cost, c.start_of-to.ensures.kept, c.loop-entry.invariant.kept);
+      monotone = omega (arith, cost, c.start_of-to.ensures.monotone, c.loop-entry.invariant.monotone);
     }
 
 pub returns-clause-range : goal.returns-clause-range

@@ -12,5 +12,5 @@ invariant-loop-entry g l = record {
   order : l.faults.order ≡ any_entry l.self (λ h. off_order l.self (lane_start l.self h)) l.entry;
   rise : l.steps ≤ l.fn.steps + 1 + l.entry + (l.from - lane_start l.self 0);
   most : l.steps ≤ l.fn.steps + entries l.self + (l.from - lane_start l.self 0);
-  kept : l.fn.steps ≤ l.steps;
+  monotone : l.fn.steps ≤ l.steps;
 }

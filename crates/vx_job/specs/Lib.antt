@@ -1,0 +1,10 @@
+pub mod formers
+pub mod Rows
+pub mod Kinds
+pub mod Faults
+pub mod Parts
+pub mod Steps
+pub mod Plans
+pub mod Laws
+pub mod PageView
+pub mod JobView

@@ -1,0 +1,47 @@
+-- What a step means on a flat list of rows, why it is refused, and what it may cost. The sources are the types and rows
+-- of all parts, as they are opened.
+use Rattle.std.specs.Prelude.{◌≡◌, ◌≤◌, ◌<◌, ◌⊎◌, ℕ, ◌*◌, List, [], ◌∷◌, length, slice_index}
+use Rattle.std.specs.List.{slice_range}
+use Rattle.vx_rows.specs.declared.dtype.DType.{DType}
+use Rattle.vx_rows.specs.declared.error.ColumnError.{ColumnError}
+use Rattle.vx_rows.specs.declared.error.ColumnError.TheVariants.{BadRange, OutOfBounds}
+use Rattle.vx_base.specs.Column.{Flat, flat}
+use Rattle.vx_job.specs.declared.step.Step.{Step}
+use Rattle.vx_job.specs.declared.step.Step.TheVariants.{Slice, Points}
+use Rattle.vx_job.specs.declared.page.Answer.{Answer}
+use Rattle.vx_job.specs.declared.page.Answer.TheVariants as answer
+use Rattle.vx_job.specs.Rows.{picked}
+
+-- the type and the rows that a step leaves
+abbrev pub step_leaves : List Flat → Flat → Step → Flat
+step_leaves sources c (Slice start end) = flat c.dtype (slice_range c.rows start end)
+step_leaves sources c (Points numbers kept) = c
+
+-- the answer of a step, where it gives one
+abbrev pub step_answers : List Flat → Flat → Step → List Answer
+step_answers sources c (Slice start end) = []
+step_answers sources c (Points numbers kept) = answer.Rows (picked c.rows numbers) ∷ []
+
+-- a number that is named, and that no row has
+abbrev pub IsPointsError : ℕ → List ℕ → ColumnError → Type 0
+IsPointsError len numbers e = (k : ℕ) × (k < length numbers) × (e ≡ OutOfBounds (slice_index numbers k) len) × (len ≤ slice_index numbers k)
+
+-- the errors that are true of a step, which has this number in its plan
+abbrev pub IsStepError : List Flat → ℕ → Flat → Step → ColumnError → Type 0
+IsStepError sources number c (Slice start end) e =
+    ((e ≡ BadRange start end) × (end < start)) ⊎ ((e ≡ OutOfBounds end (length c.rows)) × (length c.rows < end))
+IsStepError sources number c (Points numbers kept) e = IsPointsError (length c.rows) numbers e
+
+-- no error is true of a step
+abbrev pub IsFree : List Flat → ℕ → Flat → Step → Type 0
+IsFree sources number c step = (e : ColumnError) → IsStepError sources number c step e → ⊥
+
+-- the steps whose reads have a bound, over a column of a type
+abbrev pub HasBound : DType → Step → Type 0
+HasBound t (Slice start end) = Unit {0}
+HasBound t (Points numbers kept) = Unit {0}
+
+-- that bound, by the cost of a read and of n rows of a selection: four reads a slice, one for each row that is named
+abbrev pub step_cost : ℕ → (ℕ → ℕ) → Step → ℕ
+step_cost point select (Slice start end) = 4 * point
+step_cost point select (Points numbers kept) = length numbers * point

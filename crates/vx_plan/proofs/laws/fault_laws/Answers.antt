@@ -1,8 +1,0 @@
-use Rattle.vx_plan.proofs.Faults.{judged, no_fault}
-use Rattle.vx_plan.proofs.laws.fault_laws.Goals as goal
-
-pub returns-clause-judged : goal.returns-clause-judged
-returns-clause-judged c = judged
-
-pub returns-clause-not_both : goal.returns-clause-not_both
-returns-clause-not_both c part fault clean = no_fault fault.0 fault.1 part fault.2 clean
