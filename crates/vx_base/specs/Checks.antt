@@ -3,7 +3,7 @@ use Rattle.std.specs.Prelude.{ℕ, ◌+◌, ◌*◌, Bool, true, ◌&&◌, nat_l
 use Rattle.std.specs.List.{list_all}
 use Rattle.vx_rows.specs.declared.value.Value.{Value}
 
--- no row is nothing
+-- no row is null
 abbrev pub all_valid : List (Option Value) → Bool
 all_valid rows = list_all is_some rows
 

@@ -12,7 +12,7 @@ abbrev pub layer_int : {A : Type 0} → Value-F A → Option ℤ
 layer_int (Value-F.Int z) = Some z
 layer_int x = None
 
--- the number that a row of an integer type is, or nothing
+-- the number that a row of an integer type is, None for a null
 abbrev pub row_int : Option Value → Option ℤ
 row_int None = None
 row_int (Some v) = layer_int (out-Value v)
@@ -44,6 +44,6 @@ abbrev pub layer_is_unsigned : {A B : Type 0} → DType-F A B → Bool
 layer_is_unsigned (DType-F.Primitive p NonNullable) = is_unsigned_ptype p
 layer_is_unsigned t = false
 
--- a type of unsigned integers of which nothing is no row
+-- a type of unsigned integers of which a null is no row
 abbrev pub is_unsigned : DType → Bool
 is_unsigned t = layer_is_unsigned (out-DType t)

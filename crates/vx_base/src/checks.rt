@@ -8,7 +8,7 @@ use crate::flat::FlatColumn;
 /// The number of rows that a chunk of chunk offsets spans.
 const CHUNK: u128 = 1024;
 
-/// Whether no row is nothing.
+/// Whether no row is null.
 pub fn all_valid(column: &FlatColumn) -> bool
     ensures { result ≡ spec.all_valid column.now.rows }
 {

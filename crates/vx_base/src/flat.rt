@@ -220,7 +220,7 @@ impl FlatColumn {
         }
     }
 
-    /// Row `i` of a column of integers: nothing, or its number. Raises the steps by one.
+    /// Row `i` of a column of integers: a null, or its number. Raises the steps by one.
     pub fn int_at<L: Ledger>(&self, i: usize, steps: &mut Steps<L>) -> Option<i128>
         requires integers { IsTrue (is_integer self.now.dtype) }
         requires inside { i < length self.now.rows }
@@ -251,7 +251,7 @@ impl FlatColumn {
         order::row_cmp(self.row(i), elem)
     }
 
-    /// Whether the rows are unsigned integers, of which none is nothing.
+    /// Whether the rows are unsigned integers, of which none is null.
     pub fn is_unsigned(&self) -> bool
         ensures { result ≡ is_unsigned self.now.dtype }
     {

@@ -18,7 +18,7 @@ impl Model for Tally {
 }
 
 impl Tally {
-    /// A count of nothing.
+    /// A count of 0.
     pub fn new() -> Tally
         ensures { result.total ≡ 0 }
     {

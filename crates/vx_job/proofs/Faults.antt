@@ -2,10 +2,12 @@
 use Rattle.std.proofs.Common.{◌≡◌, ◌⊎◌, inl, inr, ◌↔◌, ℕ, suc, ◌≤◌, ◌<◌, ◌^◌, List, [], ◌∷◌, map, length, take, get_or, refl, sym, ◌∙◌, ap, subst, arith, Option, Some, None, Bool, true, false, IsTrue}
 use Rattle.std.specs.List.{All, AllByRecursion}
 use Rattle.std.proofs.lemmas.Bool.{false≢true, cases_lt}
+use Rattle.std.proofs.lemmas.List.{length-take-le, get_or-take}
 use Rattle.std.proofs.lemmas.List.Elements.{All-from_recursion, recursion_from_All}
 use Rattle.vx_rows.specs.Types.{AlikeTypes}
 use Rattle.vx_rows.specs.Fits.{row_fits}
 use Rattle.vx_rows.specs.declared.dtype.DType.{DType}
+use Rattle.vx_rows.specs.declared.value.Value.{Value}
 use Rattle.vx_rows.specs.declared.error.ColumnError.{ColumnError}
 use Rattle.vx_rows.specs.declared.error.Rule.{Rule}
 use Rattle.vx_rows.specs.declared.error.Rule.TheVariants.{RowType, TooLong, ChunkType}
@@ -49,51 +51,72 @@ clean_within p s =
 
 -- ---- a part isn't both clean and faulty
 
--- one rule and none aren't both the first
-one_fault : (b : Bool) (Broke : Option Rule → Type 0) → ((rule : Rule) → Broke (Some rule) → Broke None → ⊥) → (f : Fault) → IsFirstFault b Broke (Some f) → IsFirstFault b Broke None → ⊥
-one_fault false Broke apart f h s = unsupported s
-  where
-    unsupported : None ≡ Some Unsupported → ⊥
-    unsupported e = cc
-one_fault true Broke apart Unsupported h s = h
-one_fault true Broke apart (Broken rule) h s = apart rule h s
+-- a layer has one first fault at most, and none where it meets its rules
+
+-- the fault that breaks a rule
+abbrev broken : Option Rule → Option Fault
+broken None = None
+broken (Some rule) = Some (Broken rule)
+
+first_once : (b : Bool) (Broke : Option Rule → Type 0) → ((r s : Option Rule) → Broke r → Broke s → s ≡ r) → (f g : Option Fault) → IsFirstFault b Broke f → IsFirstFault b Broke g → g ≡ f
+first_once false Broke once f g h k = k ∙ sym h
+first_once true Broke once None None h k = refl
+first_once true Broke once None (Some Unsupported) h k = absurd k
+first_once true Broke once None (Some (Broken s)) h k = ap broken (once None (Some s) h k)
+first_once true Broke once (Some Unsupported) g h k = absurd h
+first_once true Broke once (Some (Broken r)) None h k = ap broken (once (Some r) None h k)
+first_once true Broke once (Some (Broken r)) (Some Unsupported) h k = absurd k
+first_once true Broke once (Some (Broken r)) (Some (Broken s)) h k = ap broken (once (Some r) (Some s) h k)
 
 -- a rule that is told by whether something holds
 abbrev ToldBy : Type 0 → (Bool → Option Rule) → Option Rule → Type 0
 ToldBy A by rule = (alike : Bool) × (IsTrue alike ↔ A) × (by alike ≡ rule)
 
-told_once : (A : Type 0) (by : Bool → Option Rule) (rule : Rule) → ToldBy A by (Some rule) → ToldBy A by None → ⊥
-told_once A by rule (a, f, e) (b, g, d) = apart (sym e ∙ ap by (same a b (λ h. g.1 (f.0 h)) (λ h. f.1 (g.0 h))) ∙ d)
+told_once : (A : Type 0) (by : Bool → Option Rule) (r s : Option Rule) → ToldBy A by r → ToldBy A by s → s ≡ r
+told_once A by r s (a, f, e) (b, g, d) = sym d ∙ sym (ap by (same a b (λ h. g.1 (f.0 h)) (λ h. f.1 (g.0 h)))) ∙ e
   where
-    apart : Some rule ≡ None → ⊥
-    apart e = cc
-
     same : (a b : Bool) → (IsTrue a → IsTrue b) → (IsTrue b → IsTrue a) → a ≡ b
     same true true h k = refl
     same true false h k = absurd (false≢true (h refl))
     same false true h k = absurd (false≢true (k refl))
     same false false h k = refl
 
-own_not_clean : (f : Fault) (y : Part-F Part) → IsOwnFault y (Some f) → IsOwnFault y None → ⊥
-own_not_clean f (Part-F.Flat c) h s = some h
-  where
-    some : Some f ≡ None → ⊥
-    some e = cc
-own_not_clean f (Part-F.Constant t r n) h s = false≢true (sym h.1 ∙ s)
-own_not_clean f (Part-F.Chunked t ps) h s = either h
-  where
-    either : ((f ≡ Broken TooLong) × (2 ^ 64 ≤ total (map part_len ps))) ⊎ ((f ≡ Broken ChunkType) × (total (map part_len ps) < 2 ^ 64) × (All (IsPartOf t) ps → ⊥)) → ⊥
-    either (inl long) = let a = long.1 in let b = s.0 in omega arith
-    either (inr typed) = typed.2 s.1
-own_not_clean f (Part-F.Lanes p n o lo is vs) h s =
+constant_once : (t : DType) (r : Option Value) (n : ℕ) (f g : Option Fault) → IsOwnFault (Part-F.Constant t r n) f → IsOwnFault (Part-F.Constant t r n) g → g ≡ f
+constant_once t r n None None h k = refl
+constant_once t r n None (Some g) h k = absurd (false≢true (sym k.1 ∙ h))
+constant_once t r n (Some f) None h k = absurd (false≢true (sym h.1 ∙ k))
+constant_once t r n (Some f) (Some g) h k = ap Some (k.0 ∙ sym h.0)
+
+chunks_once : (t : DType) (ps : List Part) (f g : Option Fault) → IsOwnFault (Part-F.Chunked t ps) f → IsOwnFault (Part-F.Chunked t ps) g → g ≡ f
+chunks_once t ps None None h k = refl
+chunks_once t ps None (Some g) h (inl long) = let a = long.1 in let b = h.0 in absurd (omega arith)
+chunks_once t ps None (Some g) h (inr typed) = absurd (typed.2 h.1)
+chunks_once t ps (Some f) None (inl long) k = let a = long.1 in let b = k.0 in absurd (omega arith)
+chunks_once t ps (Some f) None (inr typed) k = absurd (typed.2 k.1)
+chunks_once t ps (Some f) (Some g) (inl h) (inl k) = ap Some (k.0 ∙ sym h.0)
+chunks_once t ps (Some f) (Some g) (inl h) (inr k) = let a = h.1 in let b = k.1 in absurd (omega arith)
+chunks_once t ps (Some f) (Some g) (inr h) (inl k) = let a = h.1 in let b = k.1 in absurd (omega arith)
+chunks_once t ps (Some f) (Some g) (inr h) (inr k) = ap Some (k.0 ∙ sym h.0)
+
+own_once : (y : Part-F Part) (f g : Option Fault) → IsOwnFault y f → IsOwnFault y g → g ≡ f
+own_once (Part-F.Flat c) f g h k = k ∙ sym h
+own_once (Part-F.Constant t r n) f g h k = constant_once t r n f g h k
+own_once (Part-F.Chunked t ps) f g h k = chunks_once t ps f g h k
+own_once (Part-F.Lanes p n o lo is vs) f g h k =
     let l = layout (part_len p) n o lo is vs in
-    one_fault (is_integer (part_type p)) (IsFirstBroken (part_type p) l) (λ rule. told_once (AlikeTypes vs.dtype (part_type p)) (layout_fault l) rule) f h s
-own_not_clean f (Part-F.Excepted b o is v co) h s =
+    first_once (is_integer (part_type p)) (IsFirstBroken (part_type p) l) (told_once (AlikeTypes vs.dtype (part_type p)) (layout_fault l)) f g h k
+own_once (Part-F.Excepted b o is v co) f g h k =
     let by : Bool → Option Rule = λ alike. exceptions_fault alike (part_type b) (part_len b) o is (part_type v) (part_len v) co in
-    one_fault (is_bool_or_integer (part_type b)) (ToldBy (AlikeTypes (part_type v) (part_type b)) by) (λ rule. told_once (AlikeTypes (part_type v) (part_type b)) by rule) f h s
-own_not_clean f (Part-F.Interleaved ps ai ri) h s =
+    first_once (is_bool_or_integer (part_type b)) (ToldBy (AlikeTypes (part_type v) (part_type b)) by) (told_once (AlikeTypes (part_type v) (part_type b)) by) f g h k
+own_once (Part-F.Interleaved ps ai ri) f g h k =
     let by : Bool → Option Rule = λ alike. interleaved_fault alike (map part_len ps) ai ri in
-    one_fault (all_bool_or_integer (map part_type ps)) (ToldBy (AreAlike (map part_type ps)) by) (λ rule. told_once (AreAlike (map part_type ps)) by rule) f h s
+    first_once (all_bool_or_integer (map part_type ps)) (ToldBy (AreAlike (map part_type ps)) by) (told_once (AreAlike (map part_type ps)) by) f g h k
+
+own_not_clean : (f : Fault) (y : Part-F Part) → IsOwnFault y (Some f) → IsOwnFault y None → ⊥
+own_not_clean f y h s = apart (own_once y (Some f) None h s)
+  where
+    apart : None ≡ Some f → ⊥
+    apart e = cc
 
 pub no_fault : (path : List ℕ) (f : Fault) (p : Part) → FaultAt path f p → IsClean p → ⊥
 no_fault [] f p h s = own_not_clean f (out-Part p) h.1 (every_here-Part IsCleanLayer p s)
@@ -102,6 +125,37 @@ no_fault (k ∷ path) f p h s = no_fault path f (get_or (children (out-Part p)) 
 pub no_fault_among : (ps : List Part) (e : ColumnError) → All IsClean ps → IsFirstFaultAmong ps e → ⊥
 no_fault_among [] e s (k, path, f, same, at) = let short = at.0 in omega arith
 no_fault_among (p ∷ ps) e s (k, path, f, same, at) = no_fault path f (get_or (p ∷ ps) k p) (at.2 p) (s k p at.0)
+
+-- ---- a first fault is the only one
+
+abbrev Same : List ℕ → Fault → List ℕ → Fault → Type 0
+Same path f other g = (other ≡ path) × (g ≡ f)
+
+-- of two parts that are the first with a fault, neither stands before the other
+not_before : (k j : ℕ) (path : List ℕ) (f : Fault) (ps : List Part) (p : Part) → k < j → j < length ps → At (FaultAt path f) k ps → All IsClean (take j ps) → ⊥
+not_before k j path f ps p h short at clean =
+    let stands : k < length (take j ps) = omega (arith, length-take-le j ps) in
+    no_fault path f (get_or ps k p) (at.2 p) (subst IsClean (get_or-take j ps k p h) (clean k p stands))
+
+pub one_fault : (p : Part) (path other : List ℕ) (f g : Fault) → FaultAt path f p → FaultAt other g p → Same path f other g
+one_fault p [] [] f g h k = (refl, some (own_once (out-Part p) (Some f) (Some g) h.1 k.1))
+  where
+    some : Some g ≡ Some f → g ≡ f
+    some e = cc
+one_fault p [] (j ∷ other) f g h k = absurd (no_fault other g (get_or (children (out-Part p)) j p) (k.2 p) (h.0 j p k.0))
+one_fault p (i ∷ path) [] f g h k = absurd (no_fault path f (get_or (children (out-Part p)) i p) (h.2 p) (k.0 i p h.0))
+one_fault p (i ∷ path) (j ∷ other) f g h k = by_order (cases_lt i j) (cases_lt j i)
+  where
+    under : j ≡ i → Same path f other g
+    under e = one_fault (get_or (children (out-Part p)) i p) path other f g (h.2 p) (subst (λ n. FaultAt other g (get_or (children (out-Part p)) n p)) e (k.2 p))
+
+    longer : j ≡ i → Same path f other g → Same (i ∷ path) f (j ∷ other) g
+    longer e (same, fault) = (ap (λ n. n ∷ other) e ∙ ap (λ (xs : List ℕ). i ∷ xs) same, fault)
+
+    by_order : (i < j) ⊎ (j ≤ i) → (j < i) ⊎ (i ≤ j) → Same (i ∷ path) f (j ∷ other) g
+    by_order (inl less) o = absurd (not_before i j path f (children (out-Part p)) p less k.0 h k.1)
+    by_order (inr a) (inl less) = absurd (not_before j i other g (children (out-Part p)) p less h.0 k h.1)
+    by_order (inr a) (inr b) = let e : j ≡ i = omega arith in longer e (under e)
 
 -- ---- a part is clean, or it has a first fault
 

@@ -10,12 +10,13 @@ use Rattle.vx_search.specs.Places.{search_bound}
 use Rattle.vx_chunks.specs.Bounds.{total}
 use Rattle.vx_patches.specs.Making.{made}
 use Rattle.vx_patches.specs.Search.{search_cost}
+use Rattle.vx_patches.specs.Slices.{cut_cost as places_cut_cost}
 use Rattle.vx_lanes.specs.Layouts.{layout, overlaid}
 use Rattle.vx_interleave.specs.Selections.{selection, pairs_of}
 use Rattle.vx_job.specs.Kinds.{interleaved_type}
 use Rattle.vx_job.specs.Faults.{IsLanesFault, IsExceptionsFault, IsInterleaveFault}
 use Rattle.vx_job.specs.Rows.{Rows, joined, excepted, interleaved, greatest, lane_reads}
-use Rattle.vx_job.specs.Parts.{type_step, part_type, rows_step, part_rows, part_len, point_step, part_point_cost, lane_step, part_lane_cost, open_cost, IsPartOf, IsCleanLayer, IsClean, children}
+use Rattle.vx_job.specs.Parts.{type_step, part_type, rows_step, part_rows, part_len, point_step, part_point_cost, cut_step, part_cut_cost, lane_step, part_lane_cost, open_step, part_open_cost, open_cost, IsPartOf, IsCleanLayer, IsClean, children}
 use Rattle.vx_job.specs.declared.part.Part.{Part}
 use Rattle.vx_job.specs.declared.part.Part.TheOpen.{Part-F}
 use Rattle.vx_job.specs.declared.part.Part.TheViews.{roll-Part}
@@ -81,6 +82,26 @@ point_excepted b o is v co = ap part_point_cost (sym (rolls-Excepted b o is v co
 pub point_interleaved : (ps : List Part) (ai ri : Flat) → part_point_cost (part.Interleaved ps ai ri) ≡ 2 + greatest (map part_point_cost ps)
 point_interleaved ps ai ri = ap part_point_cost (sym (rolls-Interleaved ps ai ri)) ∙ fold-roll-Part ℕ point_step (Part-F.Interleaved ps ai ri)
 
+-- cut ends of slices
+pub cut_flat : (c : Flat) → part_cut_cost (part.Flat c) ≡ 0
+cut_flat c = ap part_cut_cost (sym (rolls-Flat c)) ∙ fold-roll-Part ℕ cut_step (Part-F.Flat c)
+
+pub cut_constant : (t : DType) (r : Option Value) (n : ℕ) → part_cut_cost (part.Constant t r n) ≡ 0
+cut_constant t r n = ap part_cut_cost (sym (rolls-Constant t r n)) ∙ fold-roll-Part ℕ cut_step (Part-F.Constant t r n)
+
+pub cut_chunked : (t : DType) (ps : List Part) → part_cut_cost (part.Chunked t ps) ≡ search_bound (length ps + 1) + greatest (map part_cut_cost ps)
+cut_chunked t ps = ap part_cut_cost (sym (rolls-Chunked t ps)) ∙ fold-roll-Part ℕ cut_step (Part-F.Chunked t ps)
+    ∙ ap (λ n. search_bound (n + 1) + greatest (map part_cut_cost ps)) (length-map ps part_cut_cost)
+
+pub cut_lanes : (p : Part) (n o : ℕ) (lo is vs : Flat) → part_cut_cost (part.Lanes p n o lo is vs) ≡ part_cut_cost p
+cut_lanes p n o lo is vs = ap part_cut_cost (sym (rolls-Lanes p n o lo is vs)) ∙ fold-roll-Part ℕ cut_step (Part-F.Lanes p n o lo is vs)
+
+pub cut_excepted : (b : Part) (o : ℕ) (is : Flat) (v : Part) (co : Option Flat) → part_cut_cost (part.Excepted b o is v co) ≡ places_cut_cost (made 0 o is co) + (part_cut_cost b + part_cut_cost v)
+cut_excepted b o is v co = ap part_cut_cost (sym (rolls-Excepted b o is v co)) ∙ fold-roll-Part ℕ cut_step (Part-F.Excepted b o is v co)
+
+pub cut_interleaved : (ps : List Part) (ai ri : Flat) → part_cut_cost (part.Interleaved ps ai ri) ≡ 0
+cut_interleaved ps ai ri = ap part_cut_cost (sym (rolls-Interleaved ps ai ri)) ∙ fold-roll-Part ℕ cut_step (Part-F.Interleaved ps ai ri)
+
 -- lane offsets and exceptions
 pub lane_flat : (c : Flat) → part_lane_cost (part.Flat c) ≡ 0
 lane_flat c = ap part_lane_cost (sym (rolls-Flat c)) ∙ fold-roll-Part ℕ lane_step (Part-F.Flat c)
@@ -88,7 +109,7 @@ lane_flat c = ap part_lane_cost (sym (rolls-Flat c)) ∙ fold-roll-Part ℕ lane
 pub lane_constant : (t : DType) (r : Option Value) (n : ℕ) → part_lane_cost (part.Constant t r n) ≡ 0
 lane_constant t r n = ap part_lane_cost (sym (rolls-Constant t r n)) ∙ fold-roll-Part ℕ lane_step (Part-F.Constant t r n)
 
-pub lane_chunked : (t : DType) (ps : List Part) → part_lane_cost (part.Chunked t ps) ≡ open_cost ps
+pub lane_chunked : (t : DType) (ps : List Part) → part_lane_cost (part.Chunked t ps) ≡ total (map part_lane_cost ps)
 lane_chunked t ps = ap part_lane_cost (sym (rolls-Chunked t ps)) ∙ fold-roll-Part ℕ lane_step (Part-F.Chunked t ps)
 
 pub lane_lanes : (p : Part) (n o : ℕ) (lo is vs : Flat) → part_lane_cost (part.Lanes p n o lo is vs) ≡ length lo.rows + length is.rows + part_lane_cost p
@@ -97,8 +118,27 @@ lane_lanes p n o lo is vs = ap part_lane_cost (sym (rolls-Lanes p n o lo is vs))
 pub lane_excepted : (b : Part) (o : ℕ) (is : Flat) (v : Part) (co : Option Flat) → part_lane_cost (part.Excepted b o is v co) ≡ part_lane_cost b + part_lane_cost v
 lane_excepted b o is v co = ap part_lane_cost (sym (rolls-Excepted b o is v co)) ∙ fold-roll-Part ℕ lane_step (Part-F.Excepted b o is v co)
 
-pub lane_interleaved : (ps : List Part) (ai ri : Flat) → part_lane_cost (part.Interleaved ps ai ri) ≡ open_cost ps
+pub lane_interleaved : (ps : List Part) (ai ri : Flat) → part_lane_cost (part.Interleaved ps ai ri) ≡ total (map part_lane_cost ps)
 lane_interleaved ps ai ri = ap part_lane_cost (sym (rolls-Interleaved ps ai ri)) ∙ fold-roll-Part ℕ lane_step (Part-F.Interleaved ps ai ri)
+
+-- opening
+pub open_flat : (c : Flat) → part_open_cost (part.Flat c) ≡ 0
+open_flat c = ap part_open_cost (sym (rolls-Flat c)) ∙ fold-roll-Part ℕ open_step (Part-F.Flat c)
+
+pub open_constant : (t : DType) (r : Option Value) (n : ℕ) → part_open_cost (part.Constant t r n) ≡ 0
+open_constant t r n = ap part_open_cost (sym (rolls-Constant t r n)) ∙ fold-roll-Part ℕ open_step (Part-F.Constant t r n)
+
+pub open_chunked : (t : DType) (ps : List Part) → part_open_cost (part.Chunked t ps) ≡ open_cost ps
+open_chunked t ps = ap part_open_cost (sym (rolls-Chunked t ps)) ∙ fold-roll-Part ℕ open_step (Part-F.Chunked t ps)
+
+pub open_lanes : (p : Part) (n o : ℕ) (lo is vs : Flat) → part_open_cost (part.Lanes p n o lo is vs) ≡ length lo.rows + length is.rows + part_open_cost p
+open_lanes p n o lo is vs = ap part_open_cost (sym (rolls-Lanes p n o lo is vs)) ∙ fold-roll-Part ℕ open_step (Part-F.Lanes p n o lo is vs)
+
+pub open_excepted : (b : Part) (o : ℕ) (is : Flat) (v : Part) (co : Option Flat) → part_open_cost (part.Excepted b o is v co) ≡ part_open_cost b + part_open_cost v
+open_excepted b o is v co = ap part_open_cost (sym (rolls-Excepted b o is v co)) ∙ fold-roll-Part ℕ open_step (Part-F.Excepted b o is v co)
+
+pub open_interleaved : (ps : List Part) (ai ri : Flat) → part_open_cost (part.Interleaved ps ai ri) ≡ open_cost ps
+open_interleaved ps ai ri = ap part_open_cost (sym (rolls-Interleaved ps ai ri)) ∙ fold-roll-Part ℕ open_step (Part-F.Interleaved ps ai ri)
 
 -- clean parts
 abbrev Known : Type 0

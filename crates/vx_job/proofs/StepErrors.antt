@@ -1,17 +1,16 @@
--- A run stops at a step exactly where an error is true of it.
-use Rattle.std.proofs.Common.{◌≡◌, ◌≢◌, inl, inr, ℕ, suc, ◌≤◌, ◌<◌, List, [], ◌∷◌, length, get_or, refl, sym, arith, Bool, true, false, ◌||◌, nat_lt, nat_le}
-use Rattle.std.proofs.lemmas.Bool.{false≢true}
-use Rattle.std.proofs.lemmas.Bool.Decides.{nat_tests}
+-- A step is free, or some error is true of it.
+use Rattle.std.proofs.Common.{◌≡◌, ◌≢◌, ◌⊎◌, inl, inr, ℕ, zero, suc, ◌≤◌, ◌<◌, List, [], ◌∷◌, length, get_or, refl, arith, Bool}
+use Rattle.std.proofs.lemmas.Bool.{cases_lt}
 use Rattle.vx_rows.specs.declared.error.ColumnError.{ColumnError}
 use Rattle.vx_rows.specs.declared.error.ColumnError.TheVariants.{OutOfMemory, BadRange, OutOfBounds}
 use Rattle.vx_base.specs.Column.{Flat}
 use Rattle.vx_job.specs.declared.step.Step.{Step}
 use Rattle.vx_job.specs.declared.step.Step.TheVariants.{Slice, Points}
-use Rattle.vx_job.specs.Plans.{stops_at, any_past}
-use Rattle.vx_job.specs.Steps.{IsStepError}
+use Rattle.vx_job.specs.Steps.{IsStepError, IsFree, AreInside, IsPointsError}
+use Rattle.vx_job.specs.Laws.{HasError}
 
-abbrev HasError : ℕ → Flat → Step → Type 0
-HasError number c step = (e : ColumnError) × (e ≢ OutOfMemory) × IsStepError number c step e
+abbrev Judged : List Flat → ℕ → Flat → Step → Type 0
+Judged sources number c step = IsFree sources number c step ⊎ HasError sources number c step
 
 no_range : (s t : ℕ) → BadRange s t ≢ OutOfMemory
 no_range s t h = cc
@@ -19,36 +18,47 @@ no_range s t h = cc
 no_bounds : (i n : ℕ) → OutOfBounds i n ≢ OutOfMemory
 no_bounds i n h = cc
 
-slice_error : (number : ℕ) (c : Flat) (start end : ℕ) → (b : Bool) → nat_lt end start ≡ b → (nat_lt end start || nat_lt (length c.rows) end) ≡ true → HasError number c (Slice start end)
-slice_error number c start end true e h = (BadRange start end, no_range start end, inl (refl, less end start e))
+-- a range in order, of rows that there are, has no error
+pub slice_free : (sources : List Flat) (number : ℕ) (c : Flat) (start end : ℕ) → start ≤ end → end ≤ length c.rows → IsFree sources number c (Slice start end)
+slice_free sources number c start end h k e (inl range) = let a = range.1 in omega arith
+slice_free sources number c start end h k e (inr bounds) = let a = bounds.1 in omega arith
+
+slice_judged : (sources : List Flat) (number : ℕ) (c : Flat) (start end : ℕ) → Judged sources number c (Slice start end)
+slice_judged sources number c start end = by_order (cases_lt end start) (cases_lt (length c.rows) end)
   where
-    less : (m n : ℕ) → nat_lt m n ≡ true → m < n
-    less m n h = grind (arith, nat_tests)
-slice_error number c start end false e h = (OutOfBounds end (length c.rows), no_bounds end (length c.rows), inr (refl, less start end (length c.rows) e h))
+    by_order : (end < start) ⊎ (start ≤ end) → (length c.rows < end) ⊎ (end ≤ length c.rows) → Judged sources number c (Slice start end)
+    by_order (inl h) k = inr (BadRange start end, no_range start end, inl (refl, h))
+    by_order (inr h) (inl k) = inr (OutOfBounds end (length c.rows), no_bounds end (length c.rows), inr (refl, k))
+    by_order (inr h) (inr k) = inl (slice_free sources number c start end h k)
+
+-- some number is that of no row
+abbrev IsSomePast : ℕ → List ℕ → Type 0
+IsSomePast len numbers = (k : ℕ) × (k < length numbers) × (len ≤ get_or numbers k 0)
+
+numbers_judged : (len : ℕ) (numbers : List ℕ) → AreInside len numbers ⊎ IsSomePast len numbers
+numbers_judged len [] = inl (λ k h. absurd (omega arith))
+numbers_judged len (n ∷ ns) = by_first (cases_lt n len) (numbers_judged len ns)
   where
-    less : (start end len : ℕ) → nat_lt end start ≡ false → (nat_lt end start || nat_lt len end) ≡ true → len < end
-    less start end len e h = grind (arith, nat_tests)
+    both : n < len → AreInside len ns → AreInside len (n ∷ ns)
+    both h all zero short = h
+    both h all (suc k) short = all k (omega arith)
 
-point_past : (len : ℕ) (numbers : List ℕ) → any_past len numbers ≡ true → (k : ℕ) × (k < length numbers) × (len ≤ get_or numbers k 0)
-point_past len [] h = absurd (false≢true h)
-point_past len (n ∷ ns) h = by_first (point_past len ns) (nat_le len n) refl
+    by_first : (n < len) ⊎ (len ≤ n) → AreInside len ns ⊎ IsSomePast len ns → AreInside len (n ∷ ns) ⊎ IsSomePast len (n ∷ ns)
+    by_first (inr past) rest = inr (0, omega arith, past)
+    by_first (inl h) (inl all) = inl (both h all)
+    by_first (inl h) (inr (k, short, past)) = inr (suc k, omega arith, past)
+
+-- numbers of rows have no error
+pub inside_free : (len : ℕ) (numbers : List ℕ) (e : ColumnError) → AreInside len numbers → IsPointsError len numbers e → ⊥
+inside_free len numbers e all (k, short, same, past) = let inside = all k short in omega arith
+
+points_judged : (sources : List Flat) (number : ℕ) (c : Flat) (numbers : List ℕ) (kept : Bool) → Judged sources number c (Points numbers kept)
+points_judged sources number c numbers kept = by (numbers_judged (length c.rows) numbers)
   where
-    less : (m n : ℕ) → nat_le m n ≡ true → m ≤ n
-    less m n h = grind (arith, nat_tests)
+    by : AreInside (length c.rows) numbers ⊎ IsSomePast (length c.rows) numbers → Judged sources number c (Points numbers kept)
+    by (inl all) = inl (λ e. inside_free (length c.rows) numbers e all)
+    by (inr (k, short, past)) = inr (OutOfBounds (get_or numbers k 0) (length c.rows), no_bounds (get_or numbers k 0) (length c.rows), (k, short, refl, past))
 
-    rest : (a b : Bool) → a ≡ false → (a || b) ≡ true → b ≡ true
-    rest true b e h = absurd (false≢true (sym e))
-    rest false b e h = h
-
-    by_first : (any_past len ns ≡ true → (k : ℕ) × (k < length ns) × (len ≤ get_or ns k 0)) → (b : Bool) → nat_le len n ≡ b
-        → (k : ℕ) × (k < length (n ∷ ns)) × (len ≤ get_or (n ∷ ns) k 0)
-    by_first behind true e = (0, omega arith, less len n e)
-    by_first behind false e =
-        let (k, short, past) = behind (rest (nat_le len n) (any_past len ns) e h) in
-        (suc k, omega arith, past)
-
-pub stop_has_error : (number : ℕ) (c : Flat) (step : Step) → stops_at c step ≡ true → HasError number c step
-stop_has_error number c (Slice start end) h = slice_error number c start end (nat_lt end start) refl h
-stop_has_error number c (Points numbers kept) h =
-    let (k, short, past) = point_past (length c.rows) numbers h in
-    (OutOfBounds (get_or numbers k 0) (length c.rows), no_bounds (get_or numbers k 0) (length c.rows), (k, short, refl, past))
+pub step_judged : (sources : List Flat) (number : ℕ) (c : Flat) (step : Step) → Judged sources number c step
+step_judged sources number c (Slice start end) = slice_judged sources number c start end
+step_judged sources number c (Points numbers kept) = points_judged sources number c numbers kept

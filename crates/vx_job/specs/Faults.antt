@@ -67,6 +67,6 @@ abbrev pub IsInterleaveFault : List DType → List ℕ → Flat → Flat → Opt
 IsInterleaveFault types lens array_indices row_indices fault =
     IsFirstFault (all_bool_or_integer types) (λ rule. (alike : Bool) × (IsTrue alike ↔ AreAlike types) × (interleaved_fault alike lens array_indices row_indices ≡ rule)) fault
 
--- want of memory, or the first fault of parts that are no part of others
+-- running out of memory, or the first fault of parts that are no part of others
 abbrev pub MadeCause : (Option Fault → Type 0) → ColumnError → Type 0
 MadeCause First e = (e ≡ error.OutOfMemory) ⊎ ((fault : Fault) × (e ≡ error_at [] fault) × First (Some fault))

@@ -22,6 +22,10 @@ abbrev pub step_answers : List Flat → Flat → Step → List Answer
 step_answers sources c (Slice start end) = []
 step_answers sources c (Points numbers kept) = answer.Rows (picked c.rows numbers) ∷ []
 
+-- each number that is named is that of a row
+abbrev pub AreInside : ℕ → List ℕ → Type 0
+AreInside len numbers = (k : ℕ) → k < length numbers → slice_index numbers k < len
+
 -- a number that is named, and that no row has
 abbrev pub IsPointsError : ℕ → List ℕ → ColumnError → Type 0
 IsPointsError len numbers e = (k : ℕ) × (k < length numbers) × (e ≡ OutOfBounds (slice_index numbers k) len) × (len ≤ slice_index numbers k)

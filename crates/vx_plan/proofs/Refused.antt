@@ -15,7 +15,7 @@ use Rattle.vx_job.specs.Faults.{Fault, error_at, MadeCause, IsLanesFault, IsExce
 use Rattle.vx_job.specs.Faults.Fault.{Unsupported, Broken}
 use Rattle.vx_column.specs.Columns.{type_of, len_of, IsOf, ChunksCause}
 use Rattle.vx_column.specs.declared.column.Column.{Column}
-use Rattle.vx_job.specs.Parts.{part_type, part_len, part_lane_cost, open_cost, IsPartOf, IsOwnFault, IsClean, children, OwnFault, At, FaultAt, IsFaultOf, IsFaultUnder, IsFaultIn, Within}
+use Rattle.vx_job.specs.Parts.{part_type, part_len, part_open_cost, open_cost, IsPartOf, IsOwnFault, IsClean, children, OwnFault, At, FaultAt, IsFaultOf, IsFaultUnder, IsFaultIn, Within}
 use Rattle.vx_plan.specs.Opened.{IsOpened, AreOpened}
 use Rattle.vx_job.specs.declared.part.Part.{Part, out-Part}
 use Rattle.vx_job.specs.declared.part.Part.TheOpen.{Part-F}
@@ -30,15 +30,15 @@ own_told : (self : Part) (y : Part-F Part) (e : ColumnError) → out-Part self �
 own_told self y e is clean (inl memory) = inl memory
 own_told self y e is clean (inr (f, same, own)) = inr ([], f, same, subst (OwnFault f) (sym is) (All-from_recursion IsClean (children y) clean, own))
 
-pub fault_constant : (self : Part) (t : DType) (r : Option Value) (n : ℕ) (e : ColumnError) → self ≡ part.Constant t r n → RefusesMisfit (row_fits t r) e → IsFaultOf self e
-fault_constant self t r n e is cause = own_told self (Part-F.Constant t r n) e (ap out-Part is ∙ outs-Constant t r n) tt (made cause)
+pub fault_constant : (t : DType) (r : Option Value) (n : ℕ) (e : ColumnError) → RefusesMisfit (row_fits t r) e → IsFaultOf (part.Constant t r n) e
+fault_constant t r n e cause = own_told (part.Constant t r n) (Part-F.Constant t r n) e (outs-Constant t r n) tt (made cause)
   where
     made : RefusesMisfit (row_fits t r) e → MadeCause (λ f. IsOwnFault (Part-F.Constant t r n) f) e
     made (inl memory) = inl memory
     made (inr misfit) = inr (Broken RowType, misfit.0, (refl, misfit.1))
 
-pub fault_chunked : (self : Part) (t : DType) (ps : List Part) (cs : List Column) (e : ColumnError) → self ≡ part.Chunked t ps → AreOpened ps cs → ChunksCause t cs e → IsFaultOf self e
-fault_chunked self t ps cs e is o cause = own_told self (Part-F.Chunked t ps) e (ap out-Part is ∙ outs-Chunked t ps) (parts_clean ps cs o) (made cause)
+pub fault_chunked : (t : DType) (ps : List Part) (cs : List Column) (e : ColumnError) → AreOpened ps cs → ChunksCause t cs e → IsFaultOf (part.Chunked t ps) e
+fault_chunked t ps cs e o cause = own_told (part.Chunked t ps) (Part-F.Chunked t ps) e (outs-Chunked t ps) (parts_clean ps cs o) (made cause)
   where
     made : ChunksCause t cs e → MadeCause (λ f. IsOwnFault (Part-F.Chunked t ps) f) e
     made (inl memory) = inl memory
@@ -59,23 +59,23 @@ cause_in : (P Q : Option Fault → Type 0) (e : ColumnError) → ((f : Option Fa
 cause_in P Q e h (inl memory) = inl memory
 cause_in P Q e h (inr (f, same, own)) = inr (f, same, h (Some f) own)
 
-pub fault_lanes : (self p : Part) (n o : ℕ) (lo is vs : Flat) (c : Column) (e : ColumnError) → self ≡ part.Lanes p n o lo is vs → IsOpened p c
-    → MadeCause (IsLanesFault (type_of c) (len_of c) n o lo is vs) e → IsFaultOf self e
-fault_lanes self p n o lo is vs c e at opened cause =
-    own_told self (Part-F.Lanes p n o lo is vs) e (ap out-Part at ∙ outs-Lanes p n o lo is vs) (opened.clean, tt)
+pub fault_lanes : (p : Part) (n o : ℕ) (lo is vs : Flat) (c : Column) (e : ColumnError) → IsOpened p c
+    → MadeCause (IsLanesFault (type_of c) (len_of c) n o lo is vs) e → IsFaultOf (part.Lanes p n o lo is vs) e
+fault_lanes p n o lo is vs c e opened cause =
+    own_told (part.Lanes p n o lo is vs) (Part-F.Lanes p n o lo is vs) e (outs-Lanes p n o lo is vs) (opened.clean, tt)
     (cause_in (IsLanesFault (type_of c) (len_of c) n o lo is vs) (IsLanesFault (part_type p) (part_len p) n o lo is vs) e (λ f. lanes_down p n o lo is vs c f opened) cause)
 
-pub fault_excepted : (self b : Part) (o : ℕ) (is : Flat) (v : Part) (co : Option Flat) (c d : Column) (e : ColumnError) → self ≡ part.Excepted b o is v co → IsOpened b c → IsOpened v d
-    → MadeCause (IsExceptionsFault (type_of c) (len_of c) o is (type_of d) (len_of d) co) e → IsFaultOf self e
-fault_excepted self b o is v co c d e at base values cause =
-    own_told self (Part-F.Excepted b o is v co) e (ap out-Part at ∙ outs-Excepted b o is v co) (base.clean, (values.clean, tt))
+pub fault_excepted : (b : Part) (o : ℕ) (is : Flat) (v : Part) (co : Option Flat) (c d : Column) (e : ColumnError) → IsOpened b c → IsOpened v d
+    → MadeCause (IsExceptionsFault (type_of c) (len_of c) o is (type_of d) (len_of d) co) e → IsFaultOf (part.Excepted b o is v co) e
+fault_excepted b o is v co c d e base values cause =
+    own_told (part.Excepted b o is v co) (Part-F.Excepted b o is v co) e (outs-Excepted b o is v co) (base.clean, (values.clean, tt))
     (cause_in (IsExceptionsFault (type_of c) (len_of c) o is (type_of d) (len_of d) co) (IsExceptionsFault (part_type b) (part_len b) o is (part_type v) (part_len v) co) e
     (λ f. exceptions_down b o is v co c d f base values) cause)
 
-pub fault_interleaved : (self : Part) (ps : List Part) (ai ri : Flat) (cs : List Column) (e : ColumnError) → self ≡ part.Interleaved ps ai ri → AreOpened ps cs
-    → MadeCause (IsInterleaveFault (map type_of cs) (map len_of cs) ai ri) e → IsFaultOf self e
-fault_interleaved self ps ai ri cs e at o cause =
-    own_told self (Part-F.Interleaved ps ai ri) e (ap out-Part at ∙ outs-Interleaved ps ai ri) (parts_clean ps cs o)
+pub fault_interleaved : (ps : List Part) (ai ri : Flat) (cs : List Column) (e : ColumnError) → AreOpened ps cs
+    → MadeCause (IsInterleaveFault (map type_of cs) (map len_of cs) ai ri) e → IsFaultOf (part.Interleaved ps ai ri) e
+fault_interleaved ps ai ri cs e o cause =
+    own_told (part.Interleaved ps ai ri) (Part-F.Interleaved ps ai ri) e (outs-Interleaved ps ai ri) (parts_clean ps cs o)
     (cause_in (IsInterleaveFault (map type_of cs) (map len_of cs) ai ri) (IsInterleaveFault (map part_type ps) (map part_len ps) ai ri) e (λ f. interleaved_down ps ai ri cs f o) cause)
 
 -- ---- a fault of a part within
@@ -115,27 +115,27 @@ within_told : (self : Part) (y : Part-F Part) (e : ColumnError) → out-Part sel
 within_told self y e is (inl memory) = inl memory
 within_told self y e is (inr (k, path, f, same, at)) = inr (k ∷ path, f, same, subst (λ z. At (FaultAt path f) k (children z)) (sym is) at)
 
-pub within_chunked : (self : Part) (t : DType) (ps : List Part) (e : ColumnError) → self ≡ part.Chunked t ps → IsFaultIn ps e → IsFaultOf self e
-within_chunked self t ps e is = within_told self (Part-F.Chunked t ps) e (ap out-Part is ∙ outs-Chunked t ps)
+pub within_chunked : (t : DType) (ps : List Part) (e : ColumnError) → IsFaultIn ps e → IsFaultOf (part.Chunked t ps) e
+within_chunked t ps e = within_told (part.Chunked t ps) (Part-F.Chunked t ps) e (outs-Chunked t ps)
 
-pub within_interleaved : (self : Part) (ps : List Part) (ai ri : Flat) (e : ColumnError) → self ≡ part.Interleaved ps ai ri → IsFaultIn ps e → IsFaultOf self e
-within_interleaved self ps ai ri e is = within_told self (Part-F.Interleaved ps ai ri) e (ap out-Part is ∙ outs-Interleaved ps ai ri)
+pub within_interleaved : (ps : List Part) (ai ri : Flat) (e : ColumnError) → IsFaultIn ps e → IsFaultOf (part.Interleaved ps ai ri) e
+within_interleaved ps ai ri e = within_told (part.Interleaved ps ai ri) (Part-F.Interleaved ps ai ri) e (outs-Interleaved ps ai ri)
 
-pub within_lanes : (self p : Part) (n o : ℕ) (lo is vs : Flat) (e : ColumnError) → self ≡ part.Lanes p n o lo is vs → IsFaultUnder 0 p e → IsFaultOf self e
-within_lanes self p n o lo is vs e at under =
-    within_told self (Part-F.Lanes p n o lo is vs) e (ap out-Part at ∙ outs-Lanes p n o lo is vs) (fault_behind [] [] p 0 e tt refl under)
+pub within_lanes : (p : Part) (n o : ℕ) (lo is vs : Flat) (e : ColumnError) → IsFaultUnder 0 p e → IsFaultOf (part.Lanes p n o lo is vs) e
+within_lanes p n o lo is vs e under =
+    within_told (part.Lanes p n o lo is vs) (Part-F.Lanes p n o lo is vs) e (outs-Lanes p n o lo is vs) (fault_behind [] [] p 0 e tt refl under)
 
-pub within_base : (self b : Part) (o : ℕ) (is : Flat) (v : Part) (co : Option Flat) (e : ColumnError) → self ≡ part.Excepted b o is v co → IsFaultUnder 0 b e → IsFaultOf self e
-within_base self b o is v co e at under =
-    within_told self (Part-F.Excepted b o is v co) e (ap out-Part at ∙ outs-Excepted b o is v co) (fault_behind [] (v ∷ []) b 0 e tt refl under)
+pub within_base : (b : Part) (o : ℕ) (is : Flat) (v : Part) (co : Option Flat) (e : ColumnError) → IsFaultUnder 0 b e → IsFaultOf (part.Excepted b o is v co) e
+within_base b o is v co e under =
+    within_told (part.Excepted b o is v co) (Part-F.Excepted b o is v co) e (outs-Excepted b o is v co) (fault_behind [] (v ∷ []) b 0 e tt refl under)
 
-pub within_values : (self b : Part) (o : ℕ) (is : Flat) (v : Part) (co : Option Flat) (c : Column) (e : ColumnError) → self ≡ part.Excepted b o is v co → IsOpened b c → IsFaultUnder 1 v e → IsFaultOf self e
-within_values self b o is v co c e at base under =
-    within_told self (Part-F.Excepted b o is v co) e (ap out-Part at ∙ outs-Excepted b o is v co) (fault_behind (b ∷ []) [] v 1 e (base.clean, tt) refl under)
+pub within_values : (b : Part) (o : ℕ) (is : Flat) (v : Part) (co : Option Flat) (c : Column) (e : ColumnError) → IsOpened b c → IsFaultUnder 1 v e → IsFaultOf (part.Excepted b o is v co) e
+within_values b o is v co c e base under =
+    within_told (part.Excepted b o is v co) (Part-F.Excepted b o is v co) e (outs-Excepted b o is v co) (fault_behind (b ∷ []) [] v 1 e (base.clean, tt) refl under)
 
 -- ---- what opening costs
 
 -- the parts so far, one more, and the rest
-pub open_cost_at : (ps : List Part) (x : Part) (rest : List Part) → open_cost (ps ++ (x ∷ rest)) ≡ open_cost ps + (part_lane_cost x + open_cost rest)
+pub open_cost_at : (ps : List Part) (x : Part) (rest : List Part) → open_cost (ps ++ (x ∷ rest)) ≡ open_cost ps + (part_open_cost x + open_cost rest)
 open_cost_at [] x rest = omega arith
 open_cost_at (p ∷ ps) x rest = omega (arith, open_cost_at ps x rest)

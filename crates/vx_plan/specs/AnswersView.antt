@@ -1,7 +1,7 @@
 -- What a plan gives: its answers, and its last column.
-use Rattle.std.specs.Prelude.{◌≤◌, List, IsTrue, refl}
+use Rattle.std.specs.Prelude.{◌≡◌, ◌≤◌, List, IsTrue, refl}
 use Rattle.std.specs.Coded.{Coded, code_by, coded×, coded_list}
-use Rattle.vx_column.specs.Columns.{point_cost, cut_cost, lane_cost, is_plain}
+use Rattle.vx_column.specs.Columns.{type_of, point_cost, cut_cost, lane_cost, is_plain}
 use Rattle.vx_column.specs.declared.column.Column.{Column}
 use Rattle.vx_column.specs.contracts.column.Column as column_row
 use Rattle.vx_job.specs.declared.page.Answer.{Answer}
@@ -19,8 +19,9 @@ answers_code =
     code_by (List Answer × Column) (coded× (coded_list answer_row.the_row.coded) column_row.the_row.coded)
     (λ a. (a.answers, a.column)) (λ p. record { answers = p.0; column = p.1 }) (λ _. refl)
 
--- none of the costs rose from a column to a later one
+-- a later column has the type of an earlier one, and none of the costs rose
 pub record CostsNoMore (before after : Column) : Type 0 where
+  pub dtype : type_of after ≡ type_of before
   pub point : point_cost after ≤ point_cost before
   pub cut : cut_cost after ≤ cut_cost before
   pub lanes : lane_cost after ≤ lane_cost before

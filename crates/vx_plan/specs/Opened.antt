@@ -1,6 +1,5 @@
 -- What a column that is opened from a part keeps of it.
 use Rattle.std.specs.Prelude.{◌≡◌, List, [], ◌∷◌, IsTrue}
-use Rattle.std.specs.List.{All}
 use Rattle.vx_job.specs.declared.part.Part.{Part}
 use Rattle.vx_job.specs.Parts.{part_type, part_rows, part_point_cost, part_cut_cost, part_lane_cost, IsClean}
 use Rattle.vx_column.specs.declared.column.Column.{Column}
@@ -24,8 +23,7 @@ AreOpened [] (column ∷ columns) = ⊥
 AreOpened (part ∷ parts) [] = ⊥
 AreOpened (part ∷ parts) (column ∷ columns) = IsOpened part column × AreOpened parts columns
 
--- the column is that of the first part, and no part has a fault
-abbrev pub IsFirst : List Part → Column → Type 0
-IsFirst [] column = ⊥
-IsFirst (part ∷ parts) column = IsOpened part column × All IsClean (part ∷ parts)
-
+-- there are parts, each column is that of its part, and this one is that of the first
+abbrev pub IsFirst : List Part → List Column → Column → Type 0
+IsFirst [] columns first = ⊥
+IsFirst (part ∷ parts) columns first = AreOpened (part ∷ parts) columns × IsOpened part first

@@ -1,24 +1,23 @@
 //! Plans: the steps, taken in order over the first of the parts.
-ghost use Rattle.std.specs.Prelude.{◌≡◌, ℕ, ◌+◌, ◌*◌, ◌≤◌, ◌⊎◌, ◌++◌, ◌∷◌, [], length, false};
+ghost use Rattle.std.specs.Prelude.{◌≡◌, ℕ, ◌+◌, ◌*◌, ◌≤◌, ◌⊎◌, ◌++◌, ◌∷◌, [], length, map};
 ghost use Rattle.std.specs.Prelude.{IfOk, OnOk, IfErr, IsOkUnless, IsTrue, List};
+ghost use Rattle.std.specs.List.{All};
+ghost use Rattle.std.specs.Option.{unwrap_or};
 ghost use Rattle.vx_base.specs.Column.{Flat};
-ghost use Rattle.vx_column.specs.Columns.{rows_of, len_of, flat_of, IsSound, point_cost, select_bound, is_plain};
-ghost use Rattle.vx_plan.specs.AnswersView.{CostsNoMore};
-ghost use Rattle.vx_job.specs.Parts.{IsOpenError, open_cost};
-ghost use Rattle.vx_plan.specs.Opened.{IsFirst};
-ghost use Rattle.vx_job.specs.Plans.{run_rows, Reached, IsRunError, Reaches, IsPlanError, plan_cost, plan_bound, rows_bound};
-ghost use Rattle.vx_job.specs.Plans.{stops_at, any_past};
-ghost use Rattle.vx_job.specs.Steps.{picked, step_leaves, step_answers, step_cost, IsStepError, IsPointsError};
+ghost use Rattle.vx_column.specs.Columns.{rows_of, len_of, type_of, flat_of, IsSound, point_cost, select_bound, is_plain};
+ghost use Rattle.vx_job.specs.Rows.{picked};
+ghost use Rattle.vx_job.specs.Steps.{step_leaves, step_answers, IsStepError, IsFree, AreInside, IsPointsError, HasBound, step_cost};
+ghost use Rattle.vx_job.specs.Plans.{RunsTo, StopsWith, Reaches, IsPlanError, AreBounded, plan_cost, plan_bound, rows_bound};
 ghost use Rattle.vx_job.specs.declared.page.Answer.{Answer};
 ghost use Rattle.vx_job.specs.declared.page.Answer.TheVariants.{Rows as answer_rows};
+ghost use Rattle.vx_plan.specs.AnswersView.{CostsNoMore};
 
 use crate::answers::Answers;
-use crate::page::Answer;
-use crate::part::{Part, open_parts};
-use crate::step::Step;
+use crate::open::open_parts;
 use std::alloc::Global;
 use vx_base::{ColumnError, Ledger, Res, Row, Seq, Steps};
 use vx_column::{ArrayProbe, Column};
+use vx_job::{Answer, Part, Step};
 
 /// Opens the parts, and takes the steps in order from part 0 on. The answers, and the type and the rows of the last
 /// column, are those of the steps on flat lists of rows. Refuses the first fault of the parts, or else an error that is
@@ -33,89 +32,75 @@ pub fn run_plan<L: Ledger>(
     ensures err { IfErr result (λ e. (e ≡ ColumnError.OutOfMemory) ⊎ IsPlanError parts.items plan.now e) }
     ensures complete { (answers : List Answer) → (last : Flat) → Reaches parts.items plan.now answers last
         → IsOkUnless result ColumnError.OutOfMemory }
-    ensures rise { steps.new ≤ steps.old + plan_bound parts.items plan.now }
+    ensures rise { AreBounded parts.items plan.now → steps.new ≤ steps.old + plan_bound parts.items plan.now }
     ensures monotone { steps.old ≤ steps.new }
-    ensures plain { IfOk result (λ a. IsTrue (is_plain a.column)) }
-    ensures select { IfOk result (λ a. (n : ℕ) → select_bound a.column n ≤ rows_bound parts.items n) }
-{
-    open_and_run(alloc, parts, plan, steps)
-}
-
-/// The plan, without the clause that follows from the others.
-fn open_and_run<L: Ledger>(
-    alloc: Global,
-    parts: Vec<Part>,
-    plan: &[Step],
-    steps: &mut Steps<L>,
-) -> Res<Answers>
-    ensures ok { IfOk result (λ a. Reaches parts.items plan.now a.answers (flat_of a.column)) }
-    ensures err { IfErr result (λ e. (e ≡ ColumnError.OutOfMemory) ⊎ IsPlanError parts.items plan.now e) }
-    ensures rise { steps.new ≤ steps.old + plan_bound parts.items plan.now }
-    ensures monotone { steps.old ≤ steps.new }
-    ensures plain { IfOk result (λ a. IsTrue (is_plain a.column)) }
-    ensures select { IfOk result (λ a. (n : ℕ) → select_bound a.column n ≤ rows_bound parts.items n) }
-{
-    let first = open_first(alloc, parts, steps)?;
-    run_steps(alloc, first, plan, steps)
-}
-
-/// Opens the parts, of which the first is the column that a plan starts with.
-fn open_first<L: Ledger>(alloc: Global, parts: Vec<Part>, steps: &mut Steps<L>) -> Res<Column>
-    ensures ok { IfOk result (λ column. IsFirst parts.items column) }
-    ensures err { IfErr result (λ e. (e ≡ ColumnError.OutOfMemory) ⊎ IsOpenError parts.items e) }
-    ensures rise { steps.new ≤ steps.old + open_cost parts.items }
-    ensures monotone { steps.old ≤ steps.new }
+    ensures plain { AreBounded parts.items plan.now → IfOk result (λ a. IsTrue (is_plain a.column)) }
+    ensures select { AreBounded parts.items plan.now
+        → IfOk result (λ a. (n : ℕ) → select_bound a.column n ≤ rows_bound parts.items n) }
 {
     let columns = open_parts(alloc, parts, steps)?;
-    columns.as_slice()[0].share(alloc)
+    let first = columns.as_slice()[0].share(alloc)?;
+    run_steps(alloc, columns.as_slice(), first, plan, steps)
 }
 
-/// Takes the steps in order.
+/// Takes the steps in order, from the first column on.
 fn run_steps<L: Ledger>(
     alloc: Global,
+    sources: &[Column],
     first: Column,
     plan: &[Step],
     steps: &mut Steps<L>,
 ) -> Res<Answers>
     requires { IsSound first }
-    ensures ok { IfOk result (λ a. run_rows (flat_of first) plan.now ≡ Reached a.answers (flat_of a.column)) }
-    ensures err { IfErr result (λ e. (e ≡ ColumnError.OutOfMemory) ⊎ IsRunError (run_rows (flat_of first) plan.now) e) }
-    ensures costs { IfOk result (λ a. CostsNoMore first a.column) }
-    ensures rise { steps.new ≤ steps.old + plan_cost (point_cost first) plan.now }
+    ensures ok { IfOk result (λ a. RunsTo (map flat_of sources.now) 0 (flat_of first) plan.now a.answers (flat_of a.column)) }
+    ensures err { IfErr result (λ e. (e ≡ ColumnError.OutOfMemory)
+        ⊎ StopsWith (map flat_of sources.now) 0 (flat_of first) plan.now e) }
+    ensures costs { All (HasBound (type_of first)) plan.now → IfOk result (λ a. CostsNoMore first a.column) }
+    ensures rise { All (HasBound (type_of first)) plan.now
+        → steps.new ≤ steps.old + plan_cost (point_cost first) (select_bound first) plan.now }
     ensures monotone { steps.old ≤ steps.new }
 {
     let mut column = first;
     let mut answers = Vec::new(alloc);
-    for step in plan {
-        column = take_step(alloc, column, step, &mut answers, steps)?;
+    for (number, step) in plan.iter().enumerate() {
+        let next = take_step(alloc, number, sources, &column, step, &mut answers, steps)?;
+        if let Some(next) = next {
+            column = next;
+        }
     }
     Ok(Answers::new(Seq::from_vec(answers), column))
 }
 
-/// Takes a step from a column to the next, and appends its answer where it gives one.
+/// Takes a step with a column, and appends its answer where it gives one. Ok of the column that the step leaves, or of
+/// None where the column stays.
 fn take_step<L: Ledger>(
     alloc: Global,
-    column: Column,
+    number: usize,
+    sources: &[Column],
+    column: &Column,
     step: &Step,
     answers: &mut Vec<Answer>,
     steps: &mut Steps<L>,
-) -> Res<Column>
-    requires { IsSound column }
-    ensures clean { OnOk result (stops_at (flat_of column) step.now ≡ false) }
-    ensures sound { IfOk result (λ next. IsSound next) }
-    ensures left { IfOk result (λ next. flat_of next ≡ step_leaves (flat_of column) step.now) }
-    ensures costs { IfOk result (λ next. CostsNoMore column next) }
-    ensures answers { OnOk result (answers.new.items ≡ answers.old.items ++ step_answers (flat_of column) step.now) }
+) -> Res<Option<Column>>
+    requires { IsSound column.now }
+    ensures free { OnOk result (IsFree (map flat_of sources.now) number (flat_of column.now) step.now) }
+    ensures sound { IfOk result (λ next. IsSound (unwrap_or next column.now)) }
+    ensures left { IfOk result (λ next. flat_of (unwrap_or next column.now)
+        ≡ step_leaves (map flat_of sources.now) (flat_of column.now) step.now) }
+    ensures costs { HasBound (type_of column.now) step.now → IfOk result (λ next. CostsNoMore column.now (unwrap_or next column.now)) }
+    ensures answers { OnOk result (answers.new.items
+        ≡ answers.old.items ++ step_answers (map flat_of sources.now) (flat_of column.now) step.now) }
     ensures err { IfErr result (λ e. (e ≡ ColumnError.OutOfMemory)
-        ⊎ ((number : ℕ) → IsStepError number (flat_of column) step.now e)) }
-    ensures rise { steps.new ≤ steps.old + step_cost (point_cost column) step.now }
+        ⊎ IsStepError (map flat_of sources.now) number (flat_of column.now) step.now e) }
+    ensures rise { HasBound (type_of column.now) step.now
+        → steps.new ≤ steps.old + step_cost (point_cost column.now) (select_bound column.now) step.now }
     ensures monotone { steps.old ≤ steps.new }
 {
     match step {
-        Step::Slice { start, end } => column.slice(alloc, *start..*end, steps),
+        Step::Slice { start, end } => Ok(Some(column.slice(alloc, *start..*end, steps)?)),
         Step::Points { rows, kept: _ } => {
-            answer_points(alloc, &column, rows.as_slice(), answers, steps)?;
-            Ok(column)
+            answer_points(alloc, column, rows.as_slice(), answers, steps)?;
+            Ok(None)
         }
     }
 }
@@ -130,7 +115,7 @@ fn answer_points<L: Ledger>(
 ) -> Res<()>
     requires { IsSound column.now }
     ensures answers { OnOk result (answers.new.items ≡ answers.old.items ++ answer_rows (picked (rows_of column.now) numbers.now) ∷ []) }
-    ensures inside { OnOk result (any_past (len_of column.now) numbers.now ≡ false) }
+    ensures inside { OnOk result (AreInside (len_of column.now) numbers.now) }
     ensures err { IfErr result (λ e. (e ≡ ColumnError.OutOfMemory) ⊎ IsPointsError (len_of column.now) numbers.now e) }
     ensures rise { steps.new ≤ steps.old + length numbers.now * point_cost column.now }
     ensures monotone { steps.old ≤ steps.new }
@@ -149,7 +134,7 @@ fn points<L: Ledger>(
 ) -> Res<Seq<Row>>
     requires { IsSound column.now }
     ensures ok { IfOk result (λ answer. answer ≡ picked (rows_of column.now) numbers.now) }
-    ensures inside { OnOk result (any_past (len_of column.now) numbers.now ≡ false) }
+    ensures inside { OnOk result (AreInside (len_of column.now) numbers.now) }
     ensures err { IfErr result (λ e. (e ≡ ColumnError.OutOfMemory) ⊎ IsPointsError (len_of column.now) numbers.now e) }
     ensures rise { steps.new ≤ steps.old + length numbers.now * point_cost column.now }
     ensures monotone { steps.old ≤ steps.new }

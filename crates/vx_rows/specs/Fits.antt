@@ -36,7 +36,7 @@ ptype_max I64 = pos 9223372036854775807
 abbrev pub is_in_range : PType → ℤ → Bool
 is_in_range p z = int_le (ptype_min p) z && int_le z (ptype_max p)
 
--- nothing fits a nullable type, and a value where `R` says so
+-- a null fits a nullable type, and a value where `R` says so
 abbrev pub option_fits : {A : Type 0} → (A → DType → Bool) → DType → Option A → Bool
 option_fits R t None = is_nullable (nullability t)
 option_fits R t (Some v) = R v t

@@ -1,4 +1,4 @@
--- The order of rows: nothing first, then by kind, then within the kind.
+-- The order of rows: nulls first, then by kind, then within the kind.
 use Rattle.std.specs.Prelude.{ℕ, List, Option, Some, None}
 use Rattle.std.specs.declared.cmp.Ordering.{Ordering}
 use Rattle.std.specs.declared.cmp.Ordering.TheVariants.{Less, Equal, Greater}
@@ -7,7 +7,7 @@ use Rattle.std.specs.Cmp.Lexicographic.{slice_cmp}
 use Rattle.vx_rows.specs.declared.value.Value.{Value, fold-Value, out-Value}
 use Rattle.vx_rows.specs.declared.value.Value.TheOpen.{Value-F}
 
--- nothing comes before something
+-- a null comes before a value
 abbrev pub option_cmp : {A B : Type 0} → (A → B → Ordering) → Option A → Option B → Ordering
 option_cmp R None None = Equal
 option_cmp R None (Some y) = Less

@@ -8,7 +8,7 @@ use crate::text::Text;
 use crate::value::{Row, Value};
 use std::alloc::Global;
 
-/// An equal row. Nothing, booleans, integers and decimals take no memory.
+/// An equal row. Nulls, booleans, integers and decimals take no memory.
 pub fn copy_row(alloc: Global, row: &Row) -> Res<Row>
     ensures ok { IfOk result (λ r. r ≡ row.now) }
     ensures err { IsOkUnless result ColumnError.OutOfMemory }

@@ -45,7 +45,7 @@ impl Drop for DType {
 }
 
 impl DType {
-    /// Whether nothing is a row of the type.
+    /// Whether a null is a row of the type.
     pub fn nullability(&self) -> Nullability
         ensures { result ≡ spec.nullability self.now }
     {

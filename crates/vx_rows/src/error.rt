@@ -38,7 +38,7 @@ pub enum Rule {
     LaneIndexOrder,
     /// The type of lane values isn't the column's, up to nullability.
     LaneValueType,
-    /// A lane value is nothing.
+    /// A lane value is null.
     LaneValueNull,
     /// A list of exceptions is empty.
     NoExceptions,

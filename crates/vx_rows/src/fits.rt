@@ -8,7 +8,7 @@ use crate::name::Name;
 use crate::value::{Row, Value};
 
 impl Nullability {
-    /// Whether nothing is a row.
+    /// Whether a null is a row.
     pub fn is_nullable(self) -> bool
         ensures { result ≡ spec.is_nullable self }
     {
@@ -47,7 +47,7 @@ impl PType {
     }
 }
 
-/// Whether the row fits: nothing a nullable type, and a value a type of its kind that it lies within.
+/// Whether the row fits: a null a nullable type, and a value a type of its kind that it lies within.
 pub fn row_fits(dtype: &DType, row: &Row) -> bool
     ensures { result ≡ spec.row_fits dtype.now row.now }
 {

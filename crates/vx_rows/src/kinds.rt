@@ -1,14 +1,14 @@
-//! What a type says beside its kind: whether nothing is a row, the range of integers, the digits of decimals.
+//! What a type says beside its kind: whether a null is a row, the range of integers, the digits of decimals.
 ghost use Rattle.std.specs.Prelude.{◌≡◌, ◌<◌, ◌≤◌, ◌^◌, ◌&&◌, nat_lt, nat_le, unsigned_abs, if◌then◌else◌};
 
 use std::marker::Model;
 
-/// Whether nothing is a row of the type.
+/// Whether a null is a row of the type.
 #[derive(Clone, Copy, Debug, PartialEq, Eq)]
 pub enum Nullability {
     /// Each row is a value.
     NonNullable,
-    /// A row may be nothing.
+    /// A row may be null.
     Nullable,
 }
 

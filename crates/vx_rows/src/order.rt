@@ -6,7 +6,7 @@ ghost use Rattle.vx_rows.specs.declared.value.Value.{out-Value};
 use crate::value::{Row, Value};
 use std::cmp::Ordering;
 
-/// Nothing first, and values of two kinds in the order of the variants. Takes no memory.
+/// Nulls first, and values of two kinds in the order of the variants. Takes no memory.
 pub fn row_cmp(a: &Row, b: &Row) -> Ordering
     ensures { result ≡ spec.row_cmp a.now b.now }
 {

@@ -34,5 +34,5 @@ impl Drop for Value {
     }
 }
 
-/// A row: nothing, or a value.
+/// A row: a null, or a value.
 pub type Row = Option<Value>;

@@ -2,7 +2,7 @@
 ghost use Rattle.std.specs.Prelude.{◌≡◌, ◌≢◌, ◌≤◌, ◌↔◌, ℕ, List, Some, true, false, Err};
 ghost use Rattle.std.specs.Prelude.{IfOk, IfErr, IsErrOf, map, string_bytes};
 ghost use Rattle.vx_ends.specs.Causes.{Rose, TellsAsBefore};
-ghost use Rattle.vx_ends.specs.Moved.{taken_len};
+ghost use Rattle.vx_ends.specs.Moved.{taken_len, TakesFront};
 ghost use Rattle.vx_tool.specs.Words.{is_run as is_run_spec};
 ghost use Rattle.vx_tool.specs.Outcome.{limit, HasReply, Stops, Writes, Outcome, IsOwed, IsUnlessMemory};
 ghost use Rattle.vx_tool.specs.declared.status.Status.{Status};
@@ -38,29 +38,7 @@ pub fn run_job<S: Source, K: Sink, L: Ledger>(
         → ¬ Rose (S.faults source.old) (S.faults source.new) → ¬ Rose (K.faults sink.old) (K.faults sink.new)
         → IsUnlessMemory result wanted }
     ensures monotone { steps.old ≤ steps.new }
-    ensures reads_tell { TellsAsBefore (S.left source.old) (S.left source.new) }
-    ensures writes_tell { TellsAsBefore (K.held sink.old) (K.held sink.new) }
-    ensures reads_later { S.faults source.old ≤ S.faults source.new }
-    ensures writes_later { K.faults sink.old ≤ K.faults sink.new }
-{
-    run_words(alloc, words, source, sink, steps)
-}
-
-/// What `run_job` does, without the clause that follows from the others.
-fn run_words<S: Source, K: Sink, L: Ledger>(
-    alloc: Global,
-    words: &[String],
-    source: &mut S,
-    sink: &mut K,
-    steps: &mut Steps<L>,
-) -> Status
-    ensures usage { (result ≡ Status.Usage) ↔ (is_run_spec (map string_bytes words.now) ≡ false) }
-    ensures outcome { Outcome result (S.left source.old) (S.left source.new) (K.held sink.old) (K.held sink.new)
-        steps.old steps.new }
-    ensures short { (result ≢ Status.TooLong) → taken_len (S.left source.old) (S.left source.new) ≤ limit }
-    ensures read_fault { result ≡ Status.ReadFault → Rose (S.faults source.old) (S.faults source.new) }
-    ensures write_fault { result ≡ Status.WriteFault → Rose (K.faults sink.old) (K.faults sink.new) }
-    ensures monotone { steps.old ≤ steps.new }
+    ensures front { TakesFront (S.left source.old) (S.left source.new) }
     ensures reads_tell { TellsAsBefore (S.left source.old) (S.left source.new) }
     ensures writes_tell { TellsAsBefore (K.held sink.old) (K.held sink.new) }
     ensures reads_later { S.faults source.old ≤ S.faults source.new }
@@ -87,6 +65,7 @@ fn read_reply<S: Source, L: Ledger>(
     ensures short { (result ≢ Err Status.TooLong) → taken_len (S.left source.old) (S.left source.new) ≤ limit }
     ensures fault { IsErrOf result Status.ReadFault → Rose (S.faults source.old) (S.faults source.new) }
     ensures monotone { steps.old ≤ steps.new }
+    ensures front { TakesFront (S.left source.old) (S.left source.new) }
     ensures tells { TellsAsBefore (S.left source.old) (S.left source.new) }
     ensures later { S.faults source.old ≤ S.faults source.new }
 {

@@ -15,10 +15,19 @@ fn words_of(rt: &HostRuntime) -> io::Result<Vec<String>> {
     Ok(words)
 }
 
+/// How a run ends whose words can't be told: words that are no text ask for no run.
+fn status_of(error: &io::Error) -> Status {
+    match error.kind() {
+        io::ErrorKind::OutOfMemory => Status::OutOfMemory,
+        _ => Status::Usage,
+    }
+}
+
 /// Runs the job between the real ends.
 fn run(rt: &HostRuntime) -> Status {
-    let Ok(words) = words_of(rt) else {
-        return Status::Usage;
+    let words = match words_of(rt) {
+        Ok(words) => words,
+        Err(error) => return status_of(&error),
     };
     let mut source = StdinSource::new(rt.stdin());
     let mut sink = StdoutSink::new(rt.stdout());

@@ -1,15 +1,15 @@
-use Rattle.std.proofs.Common.{◌≡◌, ◌+◌, ◌*◌, ◌≤◌, take, false}
+use Rattle.std.proofs.Common.{◌≡◌, ◌+◌, ◌*◌, ◌≤◌, take}
 use Rattle.vx_column.specs.Columns.{rows_of, len_of, point_cost}
 use Rattle.vx_column.specs.Probes.{probed}
-use Rattle.vx_job.specs.Plans.{any_past}
-use Rattle.vx_job.specs.Steps.{picked}
+use Rattle.vx_job.specs.Rows.{picked}
+use Rattle.vx_job.specs.Steps.{AreInside}
 use Rattle.vx_plan.proofs.run.points.Given as goal
 
 abbrev pub invariant-loop-number : goal.invariant-loop-number
 invariant-loop-number g l = record {
   reads : probed l.probe ≡ l.column;
   answer : l.rows ≡ picked (rows_of l.column) (take l.number-index l.numbers);
-  inside : any_past (len_of l.column) (take l.number-index l.numbers) ≡ false;
+  inside : AreInside (len_of l.column) (take l.number-index l.numbers);
   rise : l.steps ≤ l.initial.steps + l.number-index * point_cost l.column;
   monotone : l.initial.steps ≤ l.steps;
 }

@@ -1,14 +1,17 @@
-use Rattle.std.proofs.Common.{◌≡◌, ◌+◌, ◌≤◌, take, drop}
-use Rattle.vx_column.specs.Columns.{flat_of, IsSound, point_cost}
+use Rattle.std.proofs.Common.{◌≡◌, ◌+◌, ◌≤◌, map, take}
+use Rattle.std.specs.List.{All}
+use Rattle.vx_column.specs.Columns.{type_of, flat_of, IsSound, point_cost, select_bound}
+use Rattle.vx_job.specs.Steps.{HasBound}
+use Rattle.vx_job.specs.Plans.{plan_cost}
 use Rattle.vx_plan.specs.AnswersView.{CostsNoMore}
-use Rattle.vx_job.specs.Plans.{with_answers, run_from, run_rows, plan_cost}
+use Rattle.vx_plan.proofs.Runs.{Continues}
 use Rattle.vx_plan.proofs.run.run_steps.Given as goal
 
 abbrev pub invariant-loop-step : goal.invariant-loop-step
 invariant-loop-step g l = record {
-  told : with_answers l.answers.items (run_from l.step-index (flat_of l.column) (drop l.step-index l.plan)) ≡ run_rows (flat_of l.fn.first) l.plan;
+  told : Continues (map flat_of l.sources) (flat_of l.fn.first) l.plan l.step-index (flat_of l.column) l.answers.items;
   sound : IsSound l.column;
-  costs : CostsNoMore l.fn.first l.column;
-  rise : l.steps ≤ l.initial.steps + plan_cost (point_cost l.fn.first) (take l.step-index l.plan);
+  costs : All (HasBound (type_of l.fn.first)) l.plan → CostsNoMore l.fn.first l.column;
+  rise : All (HasBound (type_of l.fn.first)) l.plan → l.steps ≤ l.initial.steps + plan_cost (point_cost l.fn.first) (select_bound l.fn.first) (take l.step-index l.plan);
   monotone : l.initial.steps ≤ l.steps;
 }

@@ -1,6 +1,6 @@
-use Rattle.std.proofs.Common.{◌∙◌, ap, subst, arith, List}
+use Rattle.std.proofs.Common.{◌∙◌, sym, ap, subst, arith, List}
 use Rattle.vx_column.specs.Columns.{flat_of, len_of}
-use Rattle.vx_job.specs.Plans.{Reaches, plan_bound}
+use Rattle.vx_job.specs.Plans.{Reaches, AreBounded, plan_bound}
 use Rattle.vx_job.specs.PageView.{PageView}
 use Rattle.vx_job.specs.declared.step.Step.{Step}
 use Rattle.vx_json.specs.Bytes.{line}
@@ -18,5 +18,7 @@ returns-in-Ok-clause-ok g c =
       last = last;
       reaches = subst (λ (p : List Step). Reaches parts p given.answers last) plan c.in-Ok.ensures.ok;
       written = c.from_vec.ensures ∙ c.in_ok-text-in-Ok.ensures.ok ∙ ap (λ (p : PageView). line (page_json p)) c.in_ok-page-in-Ok.ensures.ok;
-      rise = omega (arith, c.in-Ok.ensures.rise, c.into_rows.ensures.rise, c.in-Ok.ensures.select (len_of given.column), ap (plan_bound parts) plan);
+      rise = λ bounded.
+          let here : AreBounded parts c.as_slice.result.now = subst (AreBounded parts) (sym plan) bounded in
+          omega (arith, c.in-Ok.ensures.rise here, c.into_rows.ensures.rise, c.in-Ok.ensures.select here (len_of given.column), ap (plan_bound parts) plan);
     }
