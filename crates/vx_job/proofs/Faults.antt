@@ -144,18 +144,18 @@ one_fault p [] [] f g h k = (refl, some (own_once (out-Part p) (Some f) (Some g)
     some e = cc
 one_fault p [] (j ∷ other) f g h k = absurd (no_fault other g (get_or (children (out-Part p)) j p) (k.2 p) (h.0 j p k.0))
 one_fault p (i ∷ path) [] f g h k = absurd (no_fault path f (get_or (children (out-Part p)) i p) (h.2 p) (k.0 i p h.0))
-one_fault p (i ∷ path) (j ∷ other) f g h k = by_order (cases_lt i j) (cases_lt j i)
+one_fault p (i ∷ path) (j ∷ other) f g h k = by_order (cases_lt i j) (cases_lt j i) (λ b. one_fault (get_or (children (out-Part p)) i p) path other f g (h.2 p) b)
   where
-    under : j ≡ i → Same path f other g
-    under e = one_fault (get_or (children (out-Part p)) i p) path other f g (h.2 p) (subst (λ n. FaultAt other g (get_or (children (out-Part p)) n p)) e (k.2 p))
-
     longer : j ≡ i → Same path f other g → Same (i ∷ path) f (j ∷ other) g
     longer e (same, fault) = (ap (λ n. n ∷ other) e ∙ ap (λ (xs : List ℕ). i ∷ xs) same, fault)
 
-    by_order : (i < j) ⊎ (j ≤ i) → (j < i) ⊎ (i ≤ j) → Same (i ∷ path) f (j ∷ other) g
-    by_order (inl less) o = absurd (not_before i j path f (children (out-Part p)) p less k.0 h k.1)
-    by_order (inr a) (inl less) = absurd (not_before j i other g (children (out-Part p)) p less h.0 k h.1)
-    by_order (inr a) (inr b) = let e : j ≡ i = omega arith in longer e (under e)
+    under : j ≡ i → (FaultAt other g (get_or (children (out-Part p)) i p) → Same path f other g) → Same path f other g
+    under e within = within (subst (λ n. FaultAt other g (get_or (children (out-Part p)) n p)) e (k.2 p))
+
+    by_order : (i < j) ⊎ (j ≤ i) → (j < i) ⊎ (i ≤ j) → (FaultAt other g (get_or (children (out-Part p)) i p) → Same path f other g) → Same (i ∷ path) f (j ∷ other) g
+    by_order (inl less) o within = absurd (not_before i j path f (children (out-Part p)) p less k.0 h k.1)
+    by_order (inr a) (inl less) within = absurd (not_before j i other g (children (out-Part p)) p less h.0 k h.1)
+    by_order (inr a) (inr b) within = let e : j ≡ i = omega arith in longer e (under e within)
 
 -- ---- a part is clean, or it has a first fault
 

@@ -1,12 +1,12 @@
 -- A step is free, or some error is true of it.
-use Rattle.std.proofs.Common.{◌≡◌, ◌≢◌, ◌⊎◌, inl, inr, ℕ, zero, suc, ◌≤◌, ◌<◌, List, [], ◌∷◌, length, get_or, refl, arith, Bool}
+use Rattle.std.proofs.Common.{◌≢◌, ◌⊎◌, inl, inr, ℕ, zero, suc, ◌≤◌, ◌<◌, List, [], ◌∷◌, length, get_or, refl, arith, Bool}
 use Rattle.std.proofs.lemmas.Bool.{cases_lt}
 use Rattle.vx_rows.specs.declared.error.ColumnError.{ColumnError}
 use Rattle.vx_rows.specs.declared.error.ColumnError.TheVariants.{OutOfMemory, BadRange, OutOfBounds}
 use Rattle.vx_base.specs.Column.{Flat}
 use Rattle.vx_job.specs.declared.step.Step.{Step}
 use Rattle.vx_job.specs.declared.step.Step.TheVariants.{Slice, Points}
-use Rattle.vx_job.specs.Steps.{IsStepError, IsFree, AreInside, IsPointsError}
+use Rattle.vx_job.specs.Steps.{IsFree, AreInside, IsPointsError}
 use Rattle.vx_job.specs.Laws.{HasError}
 
 abbrev Judged : List Flat → ℕ → Flat → Step → Type 0

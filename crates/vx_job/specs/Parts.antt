@@ -5,7 +5,6 @@ use Rattle.vx_rows.specs.Fits.{row_fits}
 use Rattle.vx_rows.specs.declared.dtype.DType.{DType}
 use Rattle.vx_rows.specs.declared.error.ColumnError.{ColumnError}
 use Rattle.vx_rows.specs.declared.error.ColumnError.TheVariants.{OutOfMemory, Malformed, Unsupported, UnknownColumn}
-use Rattle.vx_rows.specs.declared.error.Rule.{Rule}
 use Rattle.vx_rows.specs.declared.error.Rule.TheVariants.{RowType, TooLong, ChunkType}
 use Rattle.vx_search.specs.Places.{search_bound}
 use Rattle.vx_chunks.specs.Bounds.{total}
