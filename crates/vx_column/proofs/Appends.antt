@@ -5,7 +5,7 @@ use Rattle.std.proofs.Math.Nat.{mul-le-mul, mul-le-mul_left, le_refl}
 use Rattle.vx_chunks.specs.Bounds.{total}
 use Rattle.vx_column.specs.Columns.{rows_of, len_of, point_cost, lane_cost, select_bound}
 use Rattle.vx_job.specs.Rows.{greatest}
-use Rattle.vx_column.specs.declared.column.Chunked.{Chunked}
+use Rattle.vx_column.specs.declared.chunked.Chunked.{Chunked}
 use Rattle.vx_column.specs.declared.column.Column.{Column}
 use Rattle.vx_column.specs.declared.column.Column.TheVariants as column
 use Rattle.vx_column.proofs.Layers.{lane_chunked, rows_chunked}

@@ -20,11 +20,11 @@ use Rattle.vx_chunks.specs.Causes.{SumCause}
 use Rattle.vx_rows.specs.declared.error.ColumnError.{ColumnError}
 use Rattle.vx_rows.specs.declared.error.ColumnError.TheVariants.{OutOfMemory}
 use Rattle.vx_search.proofs.Powers.{search_bound-le}
-use Rattle.vx_base.specs.Column.{Flat, flat}
+use Rattle.vx_base.specs.Column.{Flat, flat, IsFlat}
 use Rattle.vx_rows.specs.declared.dtype.DType.{DType}
 use Rattle.vx_column.specs.Columns.{type_of, rows_of, len_of, point_cost, cut_cost, lane_cost, is_plain, all_true, select_bound, IsSound, IsSliceOf, IsWhole, last_piece}
 use Rattle.vx_job.specs.Rows.{Rows, joined, greatest}
-use Rattle.vx_column.specs.declared.column.Chunked.{Chunked}
+use Rattle.vx_column.specs.declared.chunked.Chunked.{Chunked}
 use Rattle.vx_column.specs.declared.patched.Patched.{Patched}
 use Rattle.vx_column.specs.declared.excepted.Excepted.{Excepted}
 use Rattle.vx_column.specs.declared.interleave.Interleave.{Interleave}
@@ -34,7 +34,7 @@ use Rattle.vx_column.specs.declared.column.Column.TheVariants.{rolls-Flat, rolls
 use Rattle.vx_column.specs.declared.column.Column.TheOpen.{Column-F}
 use Rattle.vx_column.specs.declared.column.Column.TheViews.{roll-Column}
 use Rattle.vx_column.specs.declared.column.Column.TheFolds.{ind-Column, map-Column}
-use Rattle.vx_column.proofs.Layers.{type_chunked, type_flat, rows_chunked, point_chunked, cut_chunked, total_joined, sound_flat, point_least, rows_flat, point_flat, cut_flat, lane_flat, lane_chunked, plain_flat, plain_chunked, point_patched, cut_patched, point_excepted, cut_excepted, cut_interleave}
+use Rattle.vx_column.proofs.Layers.{chunks_here, type_chunked, type_flat, rows_chunked, point_chunked, cut_chunked, total_joined, sound_flat, point_least, rows_flat, point_flat, cut_flat, lane_flat, lane_chunked, plain_flat, plain_chunked, point_patched, cut_patched, point_excepted, cut_excepted, cut_interleave}
 use Rattle.vx_column.proofs.Lists.{sublist_inside, sublist_across, sublist_front, sublist_rest, sublist_whole, sublist_none, split_at, ends_cut_within, ends_cut_across, greatest-append}
 
 -- the rows of columns, joined
@@ -252,7 +252,7 @@ all_last P front m back all =
     fewer : (xs ys : List Column) → All P (xs ++ ys) → All P xs
     fewer xs ys h = subst (All P) (take_at xs ys (length xs) refl) (All-take P (length xs) (xs ++ ys) h)
 
--- a sum that fits is refused for want of memory alone
+-- a sum that fits is refused for running out of memory alone
 pub only_memory_of_sum : (sum : ℕ) (e : ColumnError) → sum < 2 ^ 64 → SumCause sum e → e ≡ OutOfMemory
 only_memory_of_sum sum e h (inl memory) = memory
 only_memory_of_sum sum e h (inr long) = absurd (omega (arith, long.1))
@@ -314,6 +314,9 @@ held_at P ys k x all h at = subst P (sym at) (all k x h)
 
 pub total_is : (c : Chunked Column) → total (map len_of c.chunks) ≡ len_of (column.Chunked c)
 total_is c = total_joined c.chunks ∙ ap length (sym (rows_chunked c))
+
+pub len_fits : (c : Chunked Column) → IsSound (column.Chunked c) → len_of (column.Chunked c) < 2 ^ 64
+len_fits c s = omega (arith, (chunks_here c s).fits, total_is c)
 
 pub rise_inside : (c : Chunked Column) (start end first s last e : ℕ) → IsSpan (map len_of c.chunks) start end first s last e → first ≡ last →
     (x : Column) → x ≡ get_or c.chunks first x → (old mid new : ℕ) → mid ≤ old + ends_cut start end (len_of (column.Chunked c)) * search_bound (length c.chunks + 1) →
@@ -381,9 +384,9 @@ flat_same self all rows start end is cut whole =
     ap column.Flat (cut ∙ ap (flat all.dtype) (ap (λ n. slice_range all.rows n end) whole.0 ∙ sublist_whole all.rows end long)) ∙ sym is
 
 -- an empty column
-pub empty_slice : (whole : Column) (rows : Flat) (t : DType) (at : ℕ) → rows ≡ flat t [] → t ≡ type_of whole → IsSliceOf whole (column.Flat rows) at at
-empty_slice whole rows t at none typed = record {
-  sound = sound_flat rows;
+pub empty_slice : (whole : Column) (rows : Flat) (t : DType) (at : ℕ) → rows ≡ flat t [] → IsFlat rows → t ≡ type_of whole → IsSliceOf whole (column.Flat rows) at at
+empty_slice whole rows t at none fits typed = record {
+  sound = sound_flat rows fits;
   dtype = type_flat rows ∙ ap (λ r. r.dtype) none ∙ typed;
   rows = rows_flat rows ∙ ap (λ r. r.rows) none ∙ sym (sublist_none (rows_of whole) at at refl);
   point = omega (arith, point_flat rows, point_least whole);
@@ -393,10 +396,10 @@ empty_slice whole rows t at none typed = record {
 }
 
 -- a window over a flat column
-pub flat_slice : (whole : Column) (all rows : Flat) (start end : ℕ) → whole ≡ column.Flat all → rows ≡ flat all.dtype (slice_range all.rows start end) → IsSliceOf whole (column.Flat rows) start end
-flat_slice whole all rows start end is cut = subst (λ w. IsSliceOf w (column.Flat rows) start end) (sym is)
+pub flat_slice : (whole : Column) (all rows : Flat) (start end : ℕ) → whole ≡ column.Flat all → rows ≡ flat all.dtype (slice_range all.rows start end) → IsFlat rows → IsSliceOf whole (column.Flat rows) start end
+flat_slice whole all rows start end is cut fits = subst (λ w. IsSliceOf w (column.Flat rows) start end) (sym is)
     (record {
-      sound = sound_flat rows;
+      sound = sound_flat rows fits;
       dtype = type_flat rows ∙ ap (λ r. r.dtype) cut ∙ sym (type_flat all);
       rows = rows_flat rows ∙ ap (λ r. r.rows) cut ∙ ap (λ r. slice_range r start end) (sym (rows_flat all));
       point = omega (arith, point_flat rows, point_flat all);

@@ -27,15 +27,15 @@ layout_long p s = (lanes_here p s).as_long ∙ sym (len_patched p)
 
 -- ---- reads
 
-pub row_nothing : (p : Patched Column) (at : ℕ) → get_or (rows_of p.inner) at None ≡ None → get_or (rows_of (column.Patched p)) at None ≡ None
-row_nothing p at e = ap (λ (rs : Rows). get_or rs at None) (rows_patched p) ∙ overlaid_nothing p.lanes (rows_of p.inner) at e
+pub row_null : (p : Patched Column) (at : ℕ) → get_or (rows_of p.inner) at None ≡ None → get_or (rows_of (column.Patched p)) at None ≡ None
+row_null p at e = ap (λ (rs : Rows). get_or rs at None) (rows_patched p) ∙ overlaid_nothing p.lanes (rows_of p.inner) at e
 
 pub row_kept : (p : Patched Column) (at : ℕ) (row : Option Value) → get_or (rows_of p.inner) at None ≡ row → exception_of p.lanes at ≡ None → get_or (rows_of (column.Patched p)) at None ≡ row
-row_kept p at None e f = row_nothing p at e
+row_kept p at None e f = row_null p at e
 row_kept p at (Some v) e f = ap (λ (rs : Rows). get_or rs at None) (rows_patched p) ∙ overlaid_kept p.lanes (rows_of p.inner) at v e f
 
 pub row_absent : (p : Patched Column) (at : ℕ) (row : Option Value) → get_or (rows_of p.inner) at None ≡ row → is_some row ≡ false → get_or (rows_of (column.Patched p)) at None ≡ row
-row_absent p at None e none = row_nothing p at e
+row_absent p at None e none = row_null p at e
 row_absent p at (Some v) e none = absurd (false≢true (sym none))
 
 pub row_replaced : (p : Patched Column) (at k : ℕ) (row : Option Value) → get_or (rows_of p.inner) at None ≡ row → is_some row ≡ true → exception_of p.lanes at ≡ Some k →

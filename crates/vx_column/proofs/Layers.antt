@@ -9,17 +9,17 @@ use Rattle.vx_patches.specs.Slices.{cut_cost as places_cut_cost}
 use Rattle.vx_lanes.specs.Layouts.{overlaid}
 use Rattle.vx_interleave.specs.Selections.{pairs_of}
 use Rattle.vx_search.proofs.Powers.{search_bound_positive}
-use Rattle.vx_base.specs.Column.{Flat}
+use Rattle.vx_base.specs.Column.{Flat, IsFlat}
 use Rattle.vx_rows.specs.declared.dtype.DType.{DType}
-use Rattle.vx_column.specs.Columns.{type_of, type_step, IsOf, lane_cost, lane_step, lane_entries, is_plain, plain_step, all_true, rows_of, rows_step, point_cost, point_step, cut_cost, cut_step, len_of, AreLanes, AreExceptions, AreInterleaved, IsSound, IsSoundLayer, slots_in}
+use Rattle.vx_column.specs.Columns.{type_of, type_step, IsOf, lane_cost, lane_step, lane_entries, is_plain, plain_step, all_true, rows_of, rows_step, point_cost, point_step, cut_cost, cut_step, len_of, AreChunks, AreLanes, AreExceptions, AreInterleaved, IsSound, IsSoundLayer, slots_in}
 use Rattle.vx_job.specs.Rows.{Rows, lane_reads, joined, excepted, interleaved, greatest}
-use Rattle.vx_column.specs.declared.column.Chunked.{Chunked}
+use Rattle.vx_column.specs.declared.chunked.Chunked.{Chunked}
 use Rattle.vx_column.specs.declared.patched.Patched.{Patched}
 use Rattle.vx_column.specs.declared.excepted.Excepted.{Excepted}
 use Rattle.vx_column.specs.declared.interleave.Interleave.{Interleave}
 use Rattle.vx_column.specs.declared.column.Column.{Column}
 use Rattle.vx_column.specs.declared.column.Column.TheOpen.{Column-F}
-use Rattle.vx_column.specs.declared.column.Column.TheVariants.{rolls-Flat, rolls-Chunked, rolls-Patched, rolls-Excepted, rolls-Interleave, outs-Chunked, outs-Patched, outs-Excepted, outs-Interleave}
+use Rattle.vx_column.specs.declared.column.Column.TheVariants.{rolls-Flat, rolls-Chunked, rolls-Patched, rolls-Excepted, rolls-Interleave, outs-Flat, outs-Chunked, outs-Patched, outs-Excepted, outs-Interleave}
 use Rattle.vx_column.specs.declared.column.Column.TheVariants as column
 use Rattle.vx_column.specs.declared.column.Column.TheViews.{out-Column, roll-Column, roll-out-Column}
 use Rattle.vx_column.specs.declared.column.Column.TheFolds.{every_held-Column, every_here-Column, every_made-Column, fold-roll-Column, ind-Column, map-Column}
@@ -114,14 +114,11 @@ lane_interleave i = ap lane_cost (sym (rolls-Interleave i)) ∙ fold-roll-Column
 pub plain_interleave : (i : Interleave Column) → is_plain (column.Interleave i) ≡ all_true (map is_plain i.values)
 plain_interleave i = ap is_plain (sym (rolls-Interleave i)) ∙ fold-roll-Column Bool plain_step (Column-F.Interleave i)
 
-pub sound_layer : (c : Chunked Column) → IsSound (column.Chunked c) → IsSoundLayer (Column-F.Chunked c)
-sound_layer c s = subst IsSoundLayer (outs-Chunked c) (every_here-Column IsSoundLayer (column.Chunked c) s)
+pub flat_here : (rows : Flat) → IsSound (column.Flat rows) → IsFlat rows
+flat_here rows s = subst IsSoundLayer (outs-Flat rows) (every_here-Column IsSoundLayer (column.Flat rows) s)
 
-pub sound_here : (c : Chunked Column) → IsSound (column.Chunked c) → c.boundaries ≡ map len_of c.chunks
-sound_here c s = (sound_layer c s).0
-
-pub types_here : (c : Chunked Column) → IsSound (column.Chunked c) → All (IsOf c.dtype) c.chunks
-types_here c s = (sound_layer c s).1
+pub chunks_here : (c : Chunked Column) → IsSound (column.Chunked c) → AreChunks c
+chunks_here c s = subst IsSoundLayer (outs-Chunked c) (every_here-Column IsSoundLayer (column.Chunked c) s)
 
 pub lanes_here : (p : Patched Column) → IsSound (column.Patched p) → AreLanes p
 lanes_here p s = subst IsSoundLayer (outs-Patched p) (every_here-Column IsSoundLayer (column.Patched p) s)
@@ -185,6 +182,11 @@ values_held x s =
     let held : AllByRecursion IsSound (x.base ∷ x.values ∷ x.slots) = subst (AllByRecursion IsSound) (ap children_in (outs-Excepted x)) (sound_within (column.Excepted x) s) in
     held.1.0
 
+pub slots_held : (x : Excepted Column) → IsSound (column.Excepted x) → All IsSound x.slots
+slots_held x s =
+    let held : AllByRecursion IsSound (x.base ∷ x.values ∷ x.slots) = subst (AllByRecursion IsSound) (ap children_in (outs-Excepted x)) (sound_within (column.Excepted x) s) in
+    All-from_recursion IsSound x.slots held.1.1
+
 pub interleaved_held : (i : Interleave Column) → IsSound (column.Interleave i) → All IsSound i.values
 interleaved_held i s = All-from_recursion IsSound i.values (subst (AllByRecursion IsSound) (ap children_in (outs-Interleave i)) (sound_within (column.Interleave i) s))
 
@@ -197,27 +199,23 @@ unfolding with_proofs
 with_proofs_of [] s = refl
 with_proofs_of (x ∷ xs) s = ap (λ ys. x ∷ ys) (with_proofs_of xs s.1)
 
-pub sound_flat : (rows : Flat) → IsSound (column.Flat rows)
-sound_flat rows = subst IsSound (rolls-Flat rows) (every_made-Column IsSoundLayer (Column-F.Flat rows) (Column-F.Flat rows) refl tt)
+pub sound_flat : (rows : Flat) → IsFlat rows → IsSound (column.Flat rows)
+sound_flat rows h = subst IsSound (rolls-Flat rows) (every_made-Column IsSoundLayer (Column-F.Flat rows) (Column-F.Flat rows) refl h)
 
-flats_sound : (flats : List Flat) → AllByRecursion IsSound (map column.Flat flats)
-flats_sound [] = tt
-flats_sound (rows ∷ flats) = (sound_flat rows, flats_sound flats)
-
-pub sound_made : (c : Chunked Column) → c.boundaries ≡ map len_of c.chunks → All (IsOf c.dtype) c.chunks → All IsSound c.chunks → IsSound (column.Chunked c)
-sound_made c h t s =
+pub chunked_made : (c : Chunked Column) → AreChunks c → All IsSound c.chunks → IsSound (column.Chunked c)
+chunked_made c h s =
     let all = recursion_from_All IsSound c.chunks s in
     subst IsSound (rolls-Chunked c) (every_made-Column IsSoundLayer (Column-F.Chunked c)
     (Column-F.Chunked record { dtype = c.dtype; boundaries = c.boundaries; chunks = with_proofs c.chunks all })
-    (ap (λ xs. Column-F.Chunked record { dtype = c.dtype; boundaries = c.boundaries; chunks = xs }) (with_proofs_of c.chunks all)) (h, t))
+    (ap (λ xs. Column-F.Chunked record { dtype = c.dtype; boundaries = c.boundaries; chunks = xs }) (with_proofs_of c.chunks all)) h)
 
 pub patched_made : (p : Patched Column) → AreLanes p → IsSound p.inner → IsSound (column.Patched p)
 patched_made p h s = subst IsSound (rolls-Patched p) (every_made-Column IsSoundLayer (Column-F.Patched p)
     (Column-F.Patched record { inner = (p.inner, s); lanes = p.lanes }) refl h)
 
-pub excepted_made : (x : Excepted Column) → AreExceptions x → x.slots ≡ map column.Flat (slots_in x.index) → IsSound x.base → IsSound x.values → IsSound (column.Excepted x)
-excepted_made x h slots b v =
-    let all : AllByRecursion IsSound x.slots = subst (AllByRecursion IsSound) (sym slots) (flats_sound (slots_in x.index)) in
+pub excepted_made : (x : Excepted Column) → AreExceptions x → x.slots ≡ map column.Flat (slots_in x.index) → IsSound x.base → IsSound x.values → All IsSound x.slots → IsSound (column.Excepted x)
+excepted_made x h slots b v s =
+    let all = recursion_from_All IsSound x.slots s in
     subst IsSound (rolls-Excepted x) (every_made-Column IsSoundLayer (Column-F.Excepted x)
     (Column-F.Excepted record { base = (x.base, b); index = x.index; values = (x.values, v); slots = with_proofs x.slots all })
     (ap (λ xs. Column-F.Excepted record { base = x.base; index = x.index; values = x.values; slots = xs }) (with_proofs_of x.slots all)) (h, slots))
@@ -232,9 +230,6 @@ interleaved_made i h s =
 pub total_joined : (cs : List Column) → total (map len_of cs) ≡ length (joined (map rows_of cs))
 total_joined [] = refl
 total_joined (x ∷ cs) = omega (arith, total_joined cs, length-append (rows_of x) (joined (map rows_of cs)))
-
-pub len_chunked : (c : Chunked Column) → IsSound (column.Chunked c) → total c.boundaries ≡ len_of (column.Chunked c)
-len_chunked c s = ap total (sound_here c s) ∙ total_joined c.chunks ∙ ap length (sym (rows_chunked c))
 
 -- a column is of one of the encodings
 pub by_variant : (P : Column → Type 0) → ((rows : Flat) → P (column.Flat rows)) → ((c : Chunked Column) → P (column.Chunked c)) → ((p : Patched Column) → P (column.Patched p)) →

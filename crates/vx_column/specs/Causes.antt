@@ -1,4 +1,4 @@
--- When a read is refused. Want of memory may come at any place.
+-- When a read is refused. Running out of memory may come at any place.
 use Rattle.std.specs.Prelude.{◌≡◌, ◌⊎◌, ℕ, ◌≤◌}
 use Rattle.vx_rows.specs.declared.error.ColumnError.{ColumnError}
 use Rattle.vx_rows.specs.declared.error.ColumnError.TheVariants.{OutOfMemory, OutOfBounds}

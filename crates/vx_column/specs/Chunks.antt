@@ -3,7 +3,7 @@ use Rattle.std.specs.Prelude.{◌≡◌, not, ◌==◌, List, [], ◌∷◌, fil
 use Rattle.vx_base.specs.Column.{flat}
 use Rattle.vx_rows.specs.declared.error.ColumnError.{ColumnError}
 use Rattle.vx_rows.specs.declared.error.ColumnError.TheVariants.{NoChunks}
-use Rattle.vx_column.specs.declared.column.Chunked.{Chunked}
+use Rattle.vx_column.specs.declared.chunked.Chunked.{Chunked}
 use Rattle.vx_column.specs.declared.column.Column.{Column}
 use Rattle.vx_column.specs.declared.column.Column.TheVariants.{Flat}
 use Rattle.vx_column.specs.Columns.{type_of, len_of, chunks_of, declared_type, ChunksCause}

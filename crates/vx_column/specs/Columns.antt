@@ -7,7 +7,7 @@ use Rattle.vx_rows.specs.declared.value.Value.{Value}
 use Rattle.vx_rows.specs.declared.error.ColumnError.{ColumnError}
 use Rattle.vx_rows.specs.declared.error.ColumnError.TheVariants.{OutOfMemory, Malformed}
 use Rattle.vx_rows.specs.declared.error.Rule.TheVariants.{TooLong, ChunkType}
-use Rattle.vx_base.specs.Column.{Flat, flat}
+use Rattle.vx_base.specs.Column.{Flat, flat, IsFlat}
 use Rattle.vx_search.specs.Places.{search_bound}
 use Rattle.vx_patches.specs.Places.{Index}
 use Rattle.vx_patches.specs.Pairs.{pairs_by, value_at}
@@ -22,7 +22,7 @@ use Rattle.vx_column.specs.declared.excepted.Excepted.{Excepted}
 use Rattle.vx_column.specs.declared.patched.Patched.{Patched}
 use Rattle.vx_column.specs.declared.interleave.Interleave.{Interleave}
 use Rattle.vx_job.specs.Kinds.{AreExceptionKinds, AreLaneKinds, AreInterleaveKinds}
-use Rattle.vx_column.specs.declared.column.Chunked.{Chunked}
+use Rattle.vx_column.specs.declared.chunked.Chunked.{Chunked}
 use Rattle.vx_column.specs.declared.column.Column.{Column}
 use Rattle.vx_column.specs.declared.column.Column.TheOpen.{Column-F}
 use Rattle.vx_column.specs.declared.column.Column.TheVariants.{Flat as flat_column}
@@ -138,13 +138,13 @@ values_of array = array.values
 abbrev pub index_of : Excepted Column → Index
 index_of array = array.index
 
+abbrev pub listed : Option Flat → List Flat
+listed None = []
+listed (Some chunk_offsets) = chunk_offsets ∷ []
+
 -- the flat slots of places: the indices, and the chunk offsets where there are any
 abbrev pub slots_in : Index → List Flat
 slots_in index = index.indices ∷ listed index.chunk_offsets
-  where
-    listed : Option Flat → List Flat
-    listed None = []
-    listed (Some chunk_offsets) = chunk_offsets ∷ []
 
 -- the inner column of lanes, and their layout
 abbrev pub inner_of : Patched Column → Column
@@ -171,6 +171,12 @@ end_covered layout start end = cond (nat_lt start end) (chunk_row layout end) 0
 abbrev pub IsOf : DType → Column → Type 0
 IsOf t column = type_of column ≡ t
 
+-- the boundaries are the running sums of the chunks' lengths, whose sum is a usize, and each chunk is of the declared type
+pub record AreChunks (chunked : Chunked Column) : Type 0 where
+  pub bounds : chunked.boundaries ≡ map len_of chunked.chunks
+  pub fits : total (map len_of chunked.chunks) < 2 ^ 64
+  pub types : All (IsOf chunked.dtype) chunked.chunks
+
 -- one lane for each row of an inner column of integers
 abbrev pub AreLanes : Patched Column → Type 0
 AreLanes patched = AreLaneKinds patched.lanes (type_of patched.inner) (len_of patched.inner)
@@ -183,11 +189,11 @@ AreExceptions e = AreExceptionKinds e.index (type_of e.base) (len_of e.base) (ty
 abbrev pub AreInterleaved : Interleave Column → Type 0
 AreInterleaved i = AreInterleaveKinds i.selectors i.dtype (map type_of i.values) (map len_of i.values)
 
--- the boundaries are the running sums of the chunks' lengths, and each chunk is of the declared type; the slots of
--- exceptions are their places' own rows
+-- flat rows fit their type, chunks and the parts of other columns are as they must be, and the slots of exceptions are
+-- their places' own rows
 abbrev pub IsSoundLayer : Column-F Column → Type 0
-IsSoundLayer (Column-F.Flat c) = Unit {0}
-IsSoundLayer (Column-F.Chunked chunked) = (chunked.boundaries ≡ map len_of chunked.chunks) × All (IsOf chunked.dtype) chunked.chunks
+IsSoundLayer (Column-F.Flat c) = IsFlat c
+IsSoundLayer (Column-F.Chunked chunked) = AreChunks chunked
 IsSoundLayer (Column-F.Patched patched) = AreLanes patched
 IsSoundLayer (Column-F.Excepted e) = AreExceptions e × (e.slots ≡ map flat_column (slots_in e.index))
 IsSoundLayer (Column-F.Interleave interleave) = AreInterleaved interleave

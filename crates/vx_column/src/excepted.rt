@@ -1,6 +1,6 @@
 //! A column with exceptions over its rows.
 ghost use Rattle.std.specs.Prelude.{◌≡◌, ◌+◌, ◌*◌, ◌-◌, ◌^◌, ◌<◌, ◌≤◌, ◌↔◌, length, min, get_or, Some, None, is_some};
-ghost use Rattle.std.specs.Prelude.{IfOk, OnOk, IfErr, IsOk, IsOkUnless, IsTrue, IsFalse, IfSome, map};
+ghost use Rattle.std.specs.Prelude.{IfOk, OnOk, IfErr, IsOk, IsOkUnless, IsTrue, IsFalse, IfSome, All, map};
 ghost use Rattle.std.specs.Option.{option_copied, option_map};
 ghost use Rattle.vx_rows.specs.Sizes.{type_takes_memory};
 ghost use Rattle.vx_rows.specs.Types.{AlikeTypes};
@@ -119,7 +119,7 @@ impl Excepted<Column> {
 
     /// The type of the rows.
     #[cycle(dtype)]
-    pub(crate) fn dtype(&self) -> &DType
+    pub fn dtype(&self) -> &DType
         ensures { result.now ≡ type_of (excepted_column self.now) }
     {
         self.base.get().dtype()
@@ -160,13 +160,13 @@ impl Excepted<Column> {
     /// The columns over the rows of the places.
     fn slots(&self) -> &[Column]
         requires { IsSound (excepted_column self.now) }
-        ensures { result.now ≡ map flat_column (slots_in (index_of self.now)) }
+        ensures value { result.now ≡ map flat_column (slots_in (index_of self.now)) }
+        ensures sound { All IsSound result.now }
     {
         self.slots.get().as_slice()
     }
 
     /// The indices as a column, which shares their rows.
-    #[tactic(auto, using(crate::proofs::Layers::sound_flat))]
     pub fn indices(&self) -> &Column
         requires { IsSound (excepted_column self.now) }
         ensures value { result.now ≡ flat_column (index_of self.now).indices }
@@ -188,14 +188,15 @@ impl Excepted<Column> {
 /// Columns over the rows of the index: the indices, and the chunk offsets where there are any.
 fn slots_of(alloc: Global, index: &PatchIndex) -> Res<Shared<Seq<Column>>>
     ensures ok { IfOk result (λ slots. slots ≡ map flat_column (slots_in index.now)) }
+    ensures sound { IfOk result (λ slots. All IsSound slots) }
     ensures err { IsOkUnless result ColumnError.OutOfMemory }
 {
     let mut slots = Vec::new(alloc);
     let indices = index.indices().share()?;
-    slots.push(Column::Flat(indices))?;
+    slots.push(Column::flat(indices))?;
     if let Some(chunk_offsets) = index.chunk_offsets() {
         let chunk_offsets = chunk_offsets.share()?;
-        slots.push(Column::Flat(chunk_offsets))?;
+        slots.push(Column::flat(chunk_offsets))?;
     }
     Ok(Shared::new(alloc, Seq::from_vec(slots))?)
 }
@@ -263,7 +264,7 @@ impl Excepted<Column> {
     }
 
     /// Where the exception of row `at` stands among the values, if it has one.
-    fn place_of<L: Ledger>(&self, at: usize, steps: &mut Steps<L>) -> Option<usize>
+    pub fn place_of<L: Ledger>(&self, at: usize, steps: &mut Steps<L>) -> Option<usize>
         requires sound { IsSound (excepted_column self.now) }
         requires inside { at < len_of (excepted_column self.now) }
         ensures place { StandsAt self.now at result }

@@ -9,7 +9,9 @@ ghost use Rattle.vx_column.specs.Columns.{IsSound, IsSliceOf, IsWhole, type_of, 
 ghost use Rattle.vx_column.specs.declared.column.Column.TheVariants.{Interleave as interleave_column};
 
 use crate::column::Column;
-use crate::kinds::{are_alike, are_bools_or_integers, lens_of, malformed, unsupported, interleaved_type};
+use crate::kinds::{
+    are_alike, are_bools_or_integers, interleaved_type, lens_of, malformed, unsupported,
+};
 use std::alloc::Global;
 use vx_base::{ColumnError, DType, FlatColumn, Ledger, Res, Row, Rule, Seq, Shared, Steps};
 use vx_interleave::Selectors;
@@ -153,14 +155,14 @@ impl Interleave<Column> {
     }
 
     /// The type of the rows.
-    pub(crate) fn dtype(&self) -> &DType
+    pub fn dtype(&self) -> &DType
         ensures { result.now ≡ type_of (interleave_column self.now) }
     {
         &self.dtype
     }
 
     /// The number of rows.
-    pub(crate) fn len(&self) -> usize
+    pub fn len(&self) -> usize
         requires { IsSound (interleave_column self.now) }
         ensures { result ≡ len_of (interleave_column self.now) }
     {
@@ -168,7 +170,7 @@ impl Interleave<Column> {
     }
 
     /// The values in order.
-    fn children(&self) -> &[Column]
+    pub fn children(&self) -> &[Column]
         requires { IsSound (interleave_column self.now) }
         ensures value { result.now ≡ interleaved_of self.now }
         ensures sound { All IsSound result.now }
@@ -225,7 +227,7 @@ impl Interleave<Column> {
     }
 
     /// The value that row `at` comes from, and the row that it is there. Raises the steps by two.
-    fn named<L: Ledger>(&self, at: usize, steps: &mut Steps<L>) -> (usize, usize)
+    pub fn named<L: Ledger>(&self, at: usize, steps: &mut Steps<L>) -> (usize, usize)
         requires sound { IsSound (interleave_column self.now) }
         requires inside { at < len_of (interleave_column self.now) }
         ensures value { result.0 < length (interleaved_of self.now) }

@@ -10,7 +10,8 @@ mod kinds;
 pub mod patched;
 pub mod probe;
 
-pub use column::{Chunked, ChunkedArray, Column};
+pub use chunked::{Chunked, ChunkedArray};
+pub use column::Column;
 pub use excepted::{Excepted, ExceptedArray};
 pub use interleave::{Interleave, InterleaveArray};
 pub use iterators::{ChunkIter, NonEmptyChunks};

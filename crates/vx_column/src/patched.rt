@@ -19,7 +19,7 @@ use vx_base::{ColumnError, DType, FlatColumn, Ledger, Res, Row, Seq, Shared, Ste
 use vx_lanes::Lanes;
 use vx_lanes::layout::CHUNK;
 
-/// An inner column, whose values exceptions replace where they stand. Nothing stays nothing. Generic in the child, as a
+/// An inner column, whose values exceptions replace where they stand. A null stays null. Generic in the child, as a
 /// chunked column is.
 pub struct Patched<C> {
     inner: Shared<C>,
@@ -100,7 +100,7 @@ impl Patched<Column> {
 
     /// The type of the rows.
     #[cycle(dtype)]
-    pub(crate) fn dtype(&self) -> &DType
+    pub fn dtype(&self) -> &DType
         ensures { result.now ≡ type_of (patched_column self.now) }
     {
         self.inner.get().dtype()
@@ -239,7 +239,7 @@ impl Patched<Column> {
         start == 0 && end == self.lanes().len()
     }
 
-    /// Row `at`: the inner row is read first, and nothing is nothing.
+    /// Row `at`: the inner row is read first, and a null stays null.
     #[cycle(row)]
     pub(crate) fn row<L: Ledger>(&self, alloc: Global, at: usize, steps: &mut Steps<L>) -> Res<Row>
         requires sound { IsSound (patched_column self.now) }
@@ -255,7 +255,7 @@ impl Patched<Column> {
     }
 
     /// What exceptions leave of the inner row `at`.
-    fn replaced<L: Ledger>(
+    pub fn replaced<L: Ledger>(
         &self,
         alloc: Global,
         at: usize,

@@ -88,7 +88,7 @@ impl<'a> ArrayProbe<'a> {
         }
     }
 
-    /// Whether the row at an index is nothing. Refuses `OutOfBounds` exactly where there is none. Takes no memory.
+    /// Whether the row at an index is null. Refuses `OutOfBounds` exactly where there is none. Takes no memory.
     pub fn execute_is_invalid<L: Ledger>(
         &mut self,
         alloc: Global,

@@ -6,16 +6,16 @@ use Rattle.vx_column.proofs.Layers.{rows_chunked}
 use Rattle.vx_column.proofs.Appends.{append_next, append_bound}
 use Rattle.vx_column.proofs.+append_rows.Goals as goal
 
-pub column::Chunked+Column::append_rows-returns-in_err-append_rows-clause-rise : goal.column::Chunked+Column::append_rows-returns-in_err-append_rows-clause-rise
-column::Chunked+Column::append_rows-returns-in_err-append_rows-clause-rise g t c =
+pub chunked::Chunked+Column::append_rows-returns-in_err-append_rows-clause-rise : goal.chunked::Chunked+Column::append_rows-returns-in_err-append_rows-clause-rise
+chunked::Chunked+Column::append_rows-returns-in_err-append_rows-clause-rise g t c =
     let self = c.args.self.now in
     let xs = c.children-chunk-items.result.now in
     let k = c.loop-chunk.chunk-index in
     let next = append_next self xs k c.chunk-item.result c.args.steps.now c.loop-chunk.steps c.append_rows.new.steps c.children-chunk-items.ensures.value (omega arith) c.chunk-item.is c.loop-chunk.invariant.rise c.append_rows.ensures.rise in
     append_bound self xs (k + 1) c.args.steps.now c.append_rows.new.steps c.children-chunk-items.ensures.value next
 
-pub column::Chunked+Column::append_rows-loop-chunk-preserved : goal.column::Chunked+Column::append_rows-loop-chunk-preserved
-column::Chunked+Column::append_rows-loop-chunk-preserved g t c =
+pub chunked::Chunked+Column::append_rows-loop-chunk-preserved : goal.chunked::Chunked+Column::append_rows-loop-chunk-preserved
+chunked::Chunked+Column::append_rows-loop-chunk-preserved g t c =
     let self = c.args.self.now in
     let xs = c.children-chunk-items.result.now in
     let k = c.loop-chunk.chunk-index in
@@ -28,14 +28,14 @@ column::Chunked+Column::append_rows-loop-chunk-preserved g t c =
       monotone = omega (arith, c.append_rows.ensures.monotone, c.loop-chunk.invariant.monotone);
     }
 
-pub column::Chunked+Column::append_rows-returns-clause-ok : goal.column::Chunked+Column::append_rows-returns-clause-ok
-column::Chunked+Column::append_rows-returns-clause-ok g t c =
+pub chunked::Chunked+Column::append_rows-returns-clause-ok : goal.chunked::Chunked+Column::append_rows-returns-clause-ok
+chunked::Chunked+Column::append_rows-returns-clause-ok g t c =
     let self = c.args.self.now in
     let xs = c.children-chunk-items.result.now in
     let k = c.loop-chunk.chunk-index in
     let old = c.args.out.now in
     c.loop-chunk.invariant.appended ∙ ap (λ ys. old ++ rows_in ys) (take_all k xs (omega arith) ∙ c.children-chunk-items.ensures.value) ∙ ap (λ r. old ++ r) (sym (rows_chunked self))
 
-pub column::Chunked+Column::append_rows-returns-clause-rise : goal.column::Chunked+Column::append_rows-returns-clause-rise
-column::Chunked+Column::append_rows-returns-clause-rise g t c =
+pub chunked::Chunked+Column::append_rows-returns-clause-rise : goal.chunked::Chunked+Column::append_rows-returns-clause-rise
+chunked::Chunked+Column::append_rows-returns-clause-rise g t c =
     append_bound c.args.self.now c.children-chunk-items.result.now c.loop-chunk.chunk-index c.args.steps.now c.loop-chunk.steps c.children-chunk-items.ensures.value c.loop-chunk.invariant.rise

@@ -5,8 +5,8 @@ use Rattle.vx_column.specs.declared.column.Column.TheVariants as column
 use Rattle.vx_column.proofs.Cuts.{rows_in}
 use Rattle.vx_column.proofs.+append_rows.Given as goal
 
-abbrev pub invariant-column::Chunked+Column::append_rows-loop-chunk : goal.invariant-column::Chunked+Column::append_rows-loop-chunk
-invariant-column::Chunked+Column::append_rows-loop-chunk g l = record {
+abbrev pub invariant-chunked::Chunked+Column::append_rows-loop-chunk : goal.invariant-chunked::Chunked+Column::append_rows-loop-chunk
+invariant-chunked::Chunked+Column::append_rows-loop-chunk g l = record {
   appended : l.out ≡ l.initial.out ++ rows_in (take l.chunk-index l.chunk-items);
   rise : l.steps ≤ l.initial.steps + (8 * length (rows_in (take l.chunk-index l.chunk-items)) * point_cost (column.Chunked l.self) + total (map lane_cost (take l.chunk-index l.chunk-items)));
   monotone : l.initial.steps ≤ l.steps;

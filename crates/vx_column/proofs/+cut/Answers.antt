@@ -17,26 +17,26 @@ use Rattle.vx_column.proofs.Excepts.{cut_kinds, cut_some, cut_none, rise_base, r
 use Rattle.vx_column.proofs.LaneRows.{IsLaneCut, lanes_slice, layout_long, cut_kinds as lane_kinds, cut_lanes}
 use Rattle.vx_column.proofs.+cut.Goals as goal
 
-pub column::Chunked+Column::cut-returns-in_ok-share-in-Whole-clause-ok : goal.column::Chunked+Column::cut-returns-in_ok-share-in-Whole-clause-ok
-column::Chunked+Column::cut-returns-in_ok-share-in-Whole-clause-ok g t c =
+pub chunked::Chunked+Column::cut-returns-in_ok-share-in-Whole-clause-ok : goal.chunked::Chunked+Column::cut-returns-in_ok-share-in-Whole-clause-ok
+chunked::Chunked+Column::cut-returns-in_ok-share-in-Whole-clause-ok g t c =
     let self = c.args.self.now in
     whole_slice (column.Chunked self) _ c.args.start c.args.end (ap column.Chunked c.in_ok-share-in-Whole.ensures.ok) c.requires.sound c.in-Whole.ensures.plan.0 (c.in-Whole.ensures.plan.1 ∙ total_is self)
 
-pub column::Chunked+Column::cut-returns-in_ok-share-in-Whole-clause-rise : goal.column::Chunked+Column::cut-returns-in_ok-share-in-Whole-clause-rise
-column::Chunked+Column::cut-returns-in_ok-share-in-Whole-clause-rise g t c =
-    rise_plan c.args.self.now c.args.start c.args.end c.args.steps.now c.plan_slice-plan.new.steps c.plan_slice-plan.ensures.rise
+pub chunked::Chunked+Column::cut-returns-in_ok-share-in-Whole-clause-rise : goal.chunked::Chunked+Column::cut-returns-in_ok-share-in-Whole-clause-rise
+chunked::Chunked+Column::cut-returns-in_ok-share-in-Whole-clause-rise g t c =
+    rise_plan c.args.self.now c.args.start c.args.end c.args.steps.now c.pieces-plan.new.steps c.pieces-plan.ensures.rise
 
-pub column::Chunked+Column::cut-returns-in-Empty-clause-same : goal.column::Chunked+Column::cut-returns-in-Empty-clause-same
-column::Chunked+Column::cut-returns-in-Empty-clause-same g t c =
+pub chunked::Chunked+Column::cut-returns-in-Empty-clause-same : goal.chunked::Chunked+Column::cut-returns-in-Empty-clause-same
+chunked::Chunked+Column::cut-returns-in-Empty-clause-same g t c =
     IfOk-weaker c.none.result _ (λ part. IsWhole (column.Chunked c.args.self.now) c.args.start c.args.end → part ≡ column.Chunked c.args.self.now)
     (λ part _ whole. absurd (not_whole c.args.self.now c.args.start c.args.end c.in-Empty.ensures.plan.1 whole)) c.none.ensures.ok
 
-pub column::Chunked+Column::cut-returns-in-Empty-clause-rise : goal.column::Chunked+Column::cut-returns-in-Empty-clause-rise
-column::Chunked+Column::cut-returns-in-Empty-clause-rise g t c =
-    rise_plan c.args.self.now c.args.start c.args.end c.args.steps.now c.plan_slice-plan.new.steps c.plan_slice-plan.ensures.rise
+pub chunked::Chunked+Column::cut-returns-in-Empty-clause-rise : goal.chunked::Chunked+Column::cut-returns-in-Empty-clause-rise
+chunked::Chunked+Column::cut-returns-in-Empty-clause-rise g t c =
+    rise_plan c.args.self.now c.args.start c.args.end c.args.steps.now c.pieces-plan.new.steps c.pieces-plan.ensures.rise
 
-pub column::Chunked+Column::cut-returns-in-One-clause-ok : goal.column::Chunked+Column::cut-returns-in-One-clause-ok
-column::Chunked+Column::cut-returns-in-One-clause-ok g t c =
+pub chunked::Chunked+Column::cut-returns-in-One-clause-ok : goal.chunked::Chunked+Column::cut-returns-in-One-clause-ok
+chunked::Chunked+Column::cut-returns-in-One-clause-ok g t c =
     let self = c.args.self.now in
     let at = c.in-One in
     let span = at.ensures.plan.1 in
@@ -48,24 +48,24 @@ column::Chunked+Column::cut-returns-in-One-clause-ok g t c =
     (held_at (IsOf self.dtype) c.children-chunks.result.now at.chunk x c.children-chunks.ensures.types (omega (arith, span.within, length-map self.chunks len_of, ap length same)) c.index-chunks-chunk.is) part slice)
     c.cut.ensures.ok
 
-pub column::Chunked+Column::cut-returns-in-One-clause-same : goal.column::Chunked+Column::cut-returns-in-One-clause-same
-column::Chunked+Column::cut-returns-in-One-clause-same g t c =
+pub chunked::Chunked+Column::cut-returns-in-One-clause-same : goal.chunked::Chunked+Column::cut-returns-in-One-clause-same
+chunked::Chunked+Column::cut-returns-in-One-clause-same g t c =
     let self = c.args.self.now in
     IfOk-weaker c.cut.result _ (λ part. IsWhole (column.Chunked self) c.args.start c.args.end → part ≡ column.Chunked self)
     (λ part _ whole. absurd (not_whole self c.args.start c.args.end c.in-One.ensures.plan.0.1 whole)) c.cut.ensures.ok
 
-pub column::Chunked+Column::cut-returns-in-One-clause-rise : goal.column::Chunked+Column::cut-returns-in-One-clause-rise
-column::Chunked+Column::cut-returns-in-One-clause-rise g t c =
+pub chunked::Chunked+Column::cut-returns-in-One-clause-rise : goal.chunked::Chunked+Column::cut-returns-in-One-clause-rise
+chunked::Chunked+Column::cut-returns-in-One-clause-rise g t c =
     let self = c.args.self.now in
     let at = c.in-One in
     let span = at.ensures.plan.1 in
     let same = c.children-chunks.ensures.value in
     let x = c.index-chunks-chunk.result in
     let at_x = same_at c.children-chunks.result.now self.chunks at.chunk x same c.index-chunks-chunk.is in
-    rise_inside self c.args.start c.args.end at.chunk at.start at.chunk at.end span refl x at_x c.args.steps.now c.plan_slice-plan.new.steps c.cut.new.steps c.plan_slice-plan.ensures.rise c.cut.ensures.rise
+    rise_inside self c.args.start c.args.end at.chunk at.start at.chunk at.end span refl x at_x c.args.steps.now c.pieces-plan.new.steps c.cut.new.steps c.pieces-plan.ensures.rise c.cut.ensures.rise
 
-pub column::Chunked+Column::cut-returns-in_err-front-in-Many-clause-rise : goal.column::Chunked+Column::cut-returns-in_err-front-in-Many-clause-rise
-column::Chunked+Column::cut-returns-in_err-front-in-Many-clause-rise g t c =
+pub chunked::Chunked+Column::cut-returns-in_err-front-in-Many-clause-rise : goal.chunked::Chunked+Column::cut-returns-in_err-front-in-Many-clause-rise
+chunked::Chunked+Column::cut-returns-in_err-front-in-Many-clause-rise g t c =
     let self = c.args.self.now in
     let at = c.in-Many in
     let span = at.ensures.plan.2 in
@@ -74,12 +74,12 @@ column::Chunked+Column::cut-returns-in_err-front-in-Many-clause-rise g t c =
     let at_x = same_at c.children-chunks.result.now self.chunks at.first x same c.index-chunks-first.is in
     let y = c.index-chunks-last.result in
     let at_y = same_at c.children-chunks.result.now self.chunks at.last y same c.index-chunks-last.is in
-    let front : c.cut-in-Many.new.steps ≤ c.plan_slice-plan.new.steps + ends_cut at.first_start (len_of x) (len_of x) * cut_cost x =
-    subst (λ n. c.cut-in-Many.new.steps ≤ c.plan_slice-plan.new.steps + ends_cut at.first_start n (len_of x) * cut_cost x) c.len.ensures c.cut-in-Many.ensures.rise in
-    rise_front self c.args.start c.args.end at.first at.first_start at.last at.last_end span x y at_x at_y c.args.steps.now c.plan_slice-plan.new.steps c.cut-in-Many.new.steps c.plan_slice-plan.ensures.rise front
+    let front : c.cut-in-Many.new.steps ≤ c.pieces-plan.new.steps + ends_cut at.first_start (len_of x) (len_of x) * cut_cost x =
+    subst (λ n. c.cut-in-Many.new.steps ≤ c.pieces-plan.new.steps + ends_cut at.first_start n (len_of x) * cut_cost x) c.len.ensures c.cut-in-Many.ensures.rise in
+    rise_front self c.args.start c.args.end at.first at.first_start at.last at.last_end span x y at_x at_y c.args.steps.now c.pieces-plan.new.steps c.cut-in-Many.new.steps c.pieces-plan.ensures.rise front
 
-pub column::Chunked+Column::cut-returns-in_err-back-in-Many-clause-rise : goal.column::Chunked+Column::cut-returns-in_err-back-in-Many-clause-rise
-column::Chunked+Column::cut-returns-in_err-back-in-Many-clause-rise g t c =
+pub chunked::Chunked+Column::cut-returns-in_err-back-in-Many-clause-rise : goal.chunked::Chunked+Column::cut-returns-in_err-back-in-Many-clause-rise
+chunked::Chunked+Column::cut-returns-in_err-back-in-Many-clause-rise g t c =
     let self = c.args.self.now in
     let at = c.in-Many in
     let span = at.ensures.plan.2 in
@@ -88,13 +88,13 @@ column::Chunked+Column::cut-returns-in_err-back-in-Many-clause-rise g t c =
     let at_x = same_at c.children-chunks.result.now self.chunks at.first x same c.index-chunks-first.is in
     let y = c.index-chunks-last.result in
     let at_y = same_at c.children-chunks.result.now self.chunks at.last y same c.index-chunks-last.is in
-    let front : c.cut-in-Many.new.steps ≤ c.plan_slice-plan.new.steps + ends_cut at.first_start (len_of x) (len_of x) * cut_cost x =
-    subst (λ n. c.cut-in-Many.new.steps ≤ c.plan_slice-plan.new.steps + ends_cut at.first_start n (len_of x) * cut_cost x) c.len.ensures c.cut-in-Many.ensures.rise in
-    rise_across self c.args.start c.args.end at.first at.first_start at.last at.last_end span x y at_x at_y c.args.steps.now c.plan_slice-plan.new.steps c.cut-in-Many.new.steps c.cut-in-Many-2.new.steps
-    c.plan_slice-plan.ensures.rise front c.cut-in-Many-2.ensures.rise
+    let front : c.cut-in-Many.new.steps ≤ c.pieces-plan.new.steps + ends_cut at.first_start (len_of x) (len_of x) * cut_cost x =
+    subst (λ n. c.cut-in-Many.new.steps ≤ c.pieces-plan.new.steps + ends_cut at.first_start n (len_of x) * cut_cost x) c.len.ensures c.cut-in-Many.ensures.rise in
+    rise_across self c.args.start c.args.end at.first at.first_start at.last at.last_end span x y at_x at_y c.args.steps.now c.pieces-plan.new.steps c.cut-in-Many.new.steps c.cut-in-Many-2.new.steps
+    c.pieces-plan.ensures.rise front c.cut-in-Many-2.ensures.rise
 
-pub column::Chunked+Column::cut-returns-in_err-array-in-Many-clause-rise : goal.column::Chunked+Column::cut-returns-in_err-array-in-Many-clause-rise
-column::Chunked+Column::cut-returns-in_err-array-in-Many-clause-rise g t c =
+pub chunked::Chunked+Column::cut-returns-in_err-array-in-Many-clause-rise : goal.chunked::Chunked+Column::cut-returns-in_err-array-in-Many-clause-rise
+chunked::Chunked+Column::cut-returns-in_err-array-in-Many-clause-rise g t c =
     let self = c.args.self.now in
     let at = c.in-Many in
     let span = at.ensures.plan.2 in
@@ -103,13 +103,13 @@ column::Chunked+Column::cut-returns-in_err-array-in-Many-clause-rise g t c =
     let at_x = same_at c.children-chunks.result.now self.chunks at.first x same c.index-chunks-first.is in
     let y = c.index-chunks-last.result in
     let at_y = same_at c.children-chunks.result.now self.chunks at.last y same c.index-chunks-last.is in
-    let front : c.cut-in-Many.new.steps ≤ c.plan_slice-plan.new.steps + ends_cut at.first_start (len_of x) (len_of x) * cut_cost x =
-    subst (λ n. c.cut-in-Many.new.steps ≤ c.plan_slice-plan.new.steps + ends_cut at.first_start n (len_of x) * cut_cost x) c.len.ensures c.cut-in-Many.ensures.rise in
-    rise_across self c.args.start c.args.end at.first at.first_start at.last at.last_end span x y at_x at_y c.args.steps.now c.plan_slice-plan.new.steps c.cut-in-Many.new.steps c.cut-in-Many-2.new.steps
-    c.plan_slice-plan.ensures.rise front c.cut-in-Many-2.ensures.rise
+    let front : c.cut-in-Many.new.steps ≤ c.pieces-plan.new.steps + ends_cut at.first_start (len_of x) (len_of x) * cut_cost x =
+    subst (λ n. c.cut-in-Many.new.steps ≤ c.pieces-plan.new.steps + ends_cut at.first_start n (len_of x) * cut_cost x) c.len.ensures c.cut-in-Many.ensures.rise in
+    rise_across self c.args.start c.args.end at.first at.first_start at.last at.last_end span x y at_x at_y c.args.steps.now c.pieces-plan.new.steps c.cut-in-Many.new.steps c.cut-in-Many-2.new.steps
+    c.pieces-plan.ensures.rise front c.cut-in-Many-2.ensures.rise
 
-pub column::Chunked+Column::cut-returns-in_ok-array-in-Many-clause-rise : goal.column::Chunked+Column::cut-returns-in_ok-array-in-Many-clause-rise
-column::Chunked+Column::cut-returns-in_ok-array-in-Many-clause-rise g t c =
+pub chunked::Chunked+Column::cut-returns-in_ok-array-in-Many-clause-rise : goal.chunked::Chunked+Column::cut-returns-in_ok-array-in-Many-clause-rise
+chunked::Chunked+Column::cut-returns-in_ok-array-in-Many-clause-rise g t c =
     let self = c.args.self.now in
     let at = c.in-Many in
     let span = at.ensures.plan.2 in
@@ -118,19 +118,19 @@ column::Chunked+Column::cut-returns-in_ok-array-in-Many-clause-rise g t c =
     let at_x = same_at c.children-chunks.result.now self.chunks at.first x same c.index-chunks-first.is in
     let y = c.index-chunks-last.result in
     let at_y = same_at c.children-chunks.result.now self.chunks at.last y same c.index-chunks-last.is in
-    let front : c.cut-in-Many.new.steps ≤ c.plan_slice-plan.new.steps + ends_cut at.first_start (len_of x) (len_of x) * cut_cost x =
-    subst (λ n. c.cut-in-Many.new.steps ≤ c.plan_slice-plan.new.steps + ends_cut at.first_start n (len_of x) * cut_cost x) c.len.ensures c.cut-in-Many.ensures.rise in
-    rise_across self c.args.start c.args.end at.first at.first_start at.last at.last_end span x y at_x at_y c.args.steps.now c.plan_slice-plan.new.steps c.cut-in-Many.new.steps c.cut-in-Many-2.new.steps
-    c.plan_slice-plan.ensures.rise front c.cut-in-Many-2.ensures.rise
+    let front : c.cut-in-Many.new.steps ≤ c.pieces-plan.new.steps + ends_cut at.first_start (len_of x) (len_of x) * cut_cost x =
+    subst (λ n. c.cut-in-Many.new.steps ≤ c.pieces-plan.new.steps + ends_cut at.first_start n (len_of x) * cut_cost x) c.len.ensures c.cut-in-Many.ensures.rise in
+    rise_across self c.args.start c.args.end at.first at.first_start at.last at.last_end span x y at_x at_y c.args.steps.now c.pieces-plan.new.steps c.cut-in-Many.new.steps c.cut-in-Many-2.new.steps
+    c.pieces-plan.ensures.rise front c.cut-in-Many-2.ensures.rise
 
-pub column::Chunked+Column::cut-join-requires-clause-sound : goal.column::Chunked+Column::cut-join-requires-clause-sound
-column::Chunked+Column::cut-join-requires-clause-sound g t c =
+pub chunked::Chunked+Column::cut-join-requires-clause-sound : goal.chunked::Chunked+Column::cut-join-requires-clause-sound
+chunked::Chunked+Column::cut-join-requires-clause-sound g t c =
     let at = c.in-Many in
     all_round IsSound c.in_ok-front-in-Many.front (slice_range c.children-chunks.result.now (at.first + 1) at.last) c.in_ok-back-in-Many.back c.in_ok-front-in-Many.ensures.ok.sound
     (All-take IsSound (at.last - (at.first + 1)) _ (All-drop IsSound (at.first + 1) _ c.children-chunks.ensures.sound)) c.in_ok-back-in-Many.ensures.ok.sound
 
-pub column::Chunked+Column::cut-join-requires-clause-types : goal.column::Chunked+Column::cut-join-requires-clause-types
-column::Chunked+Column::cut-join-requires-clause-types g t c =
+pub chunked::Chunked+Column::cut-join-requires-clause-types : goal.chunked::Chunked+Column::cut-join-requires-clause-types
+chunked::Chunked+Column::cut-join-requires-clause-types g t c =
     let self = c.args.self.now in
     let at = c.in-Many in
     let span = at.ensures.plan.2 in
@@ -146,8 +146,8 @@ column::Chunked+Column::cut-join-requires-clause-types g t c =
     (All-take P (at.last - (at.first + 1)) _ (All-drop P (at.first + 1) _ c.children-chunks.ensures.types))
     (c.in_ok-back-in-Many.ensures.ok.dtype ∙ held_at P all at.last y c.children-chunks.ensures.types in_y c.index-chunks-last.is)
 
-pub column::Chunked+Column::cut-join-requires-clause-fits : goal.column::Chunked+Column::cut-join-requires-clause-fits
-column::Chunked+Column::cut-join-requires-clause-fits g t c =
+pub chunked::Chunked+Column::cut-join-requires-clause-fits : goal.chunked::Chunked+Column::cut-join-requires-clause-fits
+chunked::Chunked+Column::cut-join-requires-clause-fits g t c =
     let self = c.args.self.now in
     let at = c.in-Many in
     let span = at.ensures.plan.2 in
@@ -163,8 +163,8 @@ column::Chunked+Column::cut-join-requires-clause-fits g t c =
     let front : IsSliceOf x kept_front at.first_start (len_of x) = subst (IsSliceOf x kept_front at.first_start) c.len.ensures c.in_ok-front-in-Many.ensures.ok in
     omega (arith, fits_many self c.args.start c.args.end at.first at.first_start at.last at.last_end span at.ensures.plan.1 x y m at_x at_y mid kept_front kept_back front c.in_ok-back-in-Many.ensures.ok)
 
-pub column::Chunked+Column::cut-returns-in_ok-array-in-Many-clause-ok : goal.column::Chunked+Column::cut-returns-in_ok-array-in-Many-clause-ok
-column::Chunked+Column::cut-returns-in_ok-array-in-Many-clause-ok g t c =
+pub chunked::Chunked+Column::cut-returns-in_ok-array-in-Many-clause-ok : goal.chunked::Chunked+Column::cut-returns-in_ok-array-in-Many-clause-ok
+chunked::Chunked+Column::cut-returns-in_ok-array-in-Many-clause-ok g t c =
     let self = c.args.self.now in
     let at = c.in-Many in
     let span = at.ensures.plan.2 in
@@ -181,13 +181,13 @@ column::Chunked+Column::cut-returns-in_ok-array-in-Many-clause-ok g t c =
     cut_many self c.in_ok-array-in-Many.array c.args.start c.args.end at.first at.first_start at.last at.last_end span at.ensures.plan.1 x y m at_x at_y mid kept_front kept_back front c.in_ok-back-in-Many.ensures.ok
     c.in_ok-array-in-Many.ensures.sound c.in_ok-array-in-Many.ensures.chunks.0 c.in_ok-array-in-Many.ensures.chunks.1
 
-pub column::Chunked+Column::cut-returns-in_ok-array-in-Many-clause-same : goal.column::Chunked+Column::cut-returns-in_ok-array-in-Many-clause-same
-column::Chunked+Column::cut-returns-in_ok-array-in-Many-clause-same g t c whole =
+pub chunked::Chunked+Column::cut-returns-in_ok-array-in-Many-clause-same : goal.chunked::Chunked+Column::cut-returns-in_ok-array-in-Many-clause-same
+chunked::Chunked+Column::cut-returns-in_ok-array-in-Many-clause-same g t c whole =
     absurd (not_whole c.args.self.now c.args.start c.args.end c.in-Many.ensures.plan.0.1 whole)
 
 pub column::Column::cut-returns-in_ok-rows-in-Flat-clause-ok : goal.column::Column::cut-returns-in_ok-rows-in-Flat-clause-ok
 column::Column::cut-returns-in_ok-rows-in-Flat-clause-ok g t c =
-    flat_slice c.args.self.now c.in-Flat.rows c.in_ok-rows-in-Flat.rows c.args.start c.args.end c.in-Flat.is c.in_ok-rows-in-Flat.ensures.ok
+    flat_slice c.args.self.now c.in-Flat.rows c.in_ok-rows-in-Flat.rows c.args.start c.args.end c.in-Flat.is c.in_ok-rows-in-Flat.ensures.ok c.in_ok-rows-in-Flat.ensures.fits
 
 pub column::Column::cut-returns-in_ok-rows-in-Flat-clause-same : goal.column::Column::cut-returns-in_ok-rows-in-Flat-clause-same
 column::Column::cut-returns-in_ok-rows-in-Flat-clause-same g t c whole =

@@ -6,8 +6,8 @@ use Rattle.vx_column.proofs.Layers.{point_interleave}
 use Rattle.vx_column.proofs.LaneRows.{row_some}
 use Rattle.vx_column.proofs.+is_valid.Goals as goal
 
-pub column::Chunked+Column::is_valid-returns-clause-value : goal.column::Chunked+Column::is_valid-returns-clause-value
-column::Chunked+Column::is_valid-returns-clause-value g t c =
+pub chunked::Chunked+Column::is_valid-returns-clause-value : goal.chunked::Chunked+Column::is_valid-returns-clause-value
+chunked::Chunked+Column::is_valid-returns-clause-value g t c =
     let self = c.args.self.now in
     let r = c.find_chunk_idx-chunk.result in
     let x = c.index-chunks-chunk.result in
@@ -17,8 +17,8 @@ column::Chunked+Column::is_valid-returns-clause-value g t c =
     c.find_chunk_idx-chunk.ensures.row in
     c.is_valid.ensures.value ∙ ap is_some (sym here)
 
-pub column::Chunked+Column::is_valid-returns-clause-rise : goal.column::Chunked+Column::is_valid-returns-clause-rise
-column::Chunked+Column::is_valid-returns-clause-rise g t c =
+pub chunked::Chunked+Column::is_valid-returns-clause-rise : goal.chunked::Chunked+Column::is_valid-returns-clause-rise
+chunked::Chunked+Column::is_valid-returns-clause-rise g t c =
     let self = c.args.self.now in
     let r = c.find_chunk_idx-chunk.result in
     let x = c.index-chunks-chunk.result in

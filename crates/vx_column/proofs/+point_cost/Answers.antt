@@ -8,15 +8,15 @@ use Rattle.vx_column.proofs.Layers.{lanes_here, point_interleave}
 use Rattle.vx_lanes.proofs.Entries.{lanes_some}
 use Rattle.vx_column.proofs.+point_cost.Goals as goal
 
-pub column::Chunked+Column::point_cost-loop-chunk-preserved : goal.column::Chunked+Column::point_cost-loop-chunk-preserved
-column::Chunked+Column::point_cost-loop-chunk-preserved t c =
+pub chunked::Chunked+Column::point_cost-loop-chunk-preserved : goal.chunked::Chunked+Column::point_cost-loop-chunk-preserved
+chunked::Chunked+Column::point_cost-loop-chunk-preserved t c =
     let xs = c.children-chunk-items.result.now in
     let k = c.loop-chunk.chunk-index in
     let more = greatest_more point_cost xs k c.chunk-item.result (omega arith) c.chunk-item.is in
     omega (arith, c.max-greatest.ensures, c.point_cost.ensures, c.loop-chunk.invariant, more)
 
-pub column::Chunked+Column::point_cost-returns : goal.column::Chunked+Column::point_cost-returns
-column::Chunked+Column::point_cost-returns t c =
+pub chunked::Chunked+Column::point_cost-returns : goal.chunked::Chunked+Column::point_cost-returns
+chunked::Chunked+Column::point_cost-returns t c =
     let self = c.args.self.now in
     let xs = c.children-chunk-items.result.now in
     let bound = ap (λ n. search_bound (n + 1)) (ap length c.boundaries.ensures ∙ length-map self.chunks len_of) in

@@ -7,8 +7,8 @@ use Rattle.vx_column.proofs.Layers.{point_interleave}
 use Rattle.vx_column.proofs.Types.{interleaved_free}
 use Rattle.vx_column.proofs.+row.Goals as goal
 
-pub column::Chunked+Column::row-returns-clause-ok : goal.column::Chunked+Column::row-returns-clause-ok
-column::Chunked+Column::row-returns-clause-ok g t c =
+pub chunked::Chunked+Column::row-returns-clause-ok : goal.chunked::Chunked+Column::row-returns-clause-ok
+chunked::Chunked+Column::row-returns-clause-ok g t c =
     let self = c.args.self.now in
     let r = c.find_chunk_idx-chunk.result in
     let x = c.index-chunks-chunk.result in
@@ -18,8 +18,8 @@ column::Chunked+Column::row-returns-clause-ok g t c =
     c.find_chunk_idx-chunk.ensures.row in
     IfOk-weaker c.row.result (λ row. row ≡ get_or (rows_of x) r.1 None) (λ row. row ≡ get_or (rows_of (column.Chunked self)) c.args.at None) (λ row e. e ∙ sym here) c.row.ensures.ok
 
-pub column::Chunked+Column::row-returns-clause-rise : goal.column::Chunked+Column::row-returns-clause-rise
-column::Chunked+Column::row-returns-clause-rise g t c =
+pub chunked::Chunked+Column::row-returns-clause-rise : goal.chunked::Chunked+Column::row-returns-clause-rise
+chunked::Chunked+Column::row-returns-clause-rise g t c =
     let self = c.args.self.now in
     let r = c.find_chunk_idx-chunk.result in
     let x = c.index-chunks-chunk.result in

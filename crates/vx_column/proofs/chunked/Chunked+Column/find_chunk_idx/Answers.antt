@@ -4,7 +4,7 @@ use Rattle.vx_search.specs.Places.{search_bound}
 use Rattle.vx_chunks.specs.Bounds.{total}
 use Rattle.vx_column.specs.Columns.{len_of}
 use Rattle.vx_column.proofs.Cuts.{total_is}
-use Rattle.vx_column.proofs.column.Chunked+Column.find_chunk_idx.Goals as goal
+use Rattle.vx_column.proofs.chunked.Chunked+Column.find_chunk_idx.Goals as goal
 
 pub find_chunk_idx-requires : goal.find_chunk_idx-requires
 find_chunk_idx-requires g c = omega (arith, ap total c.boundaries.ensures, total_is c.args.self.now)

@@ -6,7 +6,7 @@ use Rattle.vx_chunks.specs.Bounds.{total}
 use Rattle.vx_chunks.specs.Plans.{IsPlanOf}
 use Rattle.vx_column.specs.Columns.{len_of}
 use Rattle.vx_column.proofs.Cuts.{total_is}
-use Rattle.vx_column.proofs.column.Chunked+Column.plan_slice.Goals as goal
+use Rattle.vx_column.proofs.chunked.Chunked+Column.plan_slice.Goals as goal
 
 pub plan_slice-requires-clause-inside : goal.plan_slice-requires-clause-inside
 plan_slice-requires-clause-inside g c = omega (arith, ap total c.boundaries.ensures, total_is c.args.self.now)

@@ -3,7 +3,7 @@ use Rattle.std.proofs.lemmas.List.{take_all}
 use Rattle.std.specs.List.{All}
 use Rattle.vx_column.specs.Columns.{IsOf}
 use Rattle.vx_column.proofs.Cuts.{all_more}
-use Rattle.vx_column.proofs.column.all_of.Goals as goal
+use Rattle.vx_column.proofs.chunked.all_of.Goals as goal
 
 pub loop-column-preserved : goal.loop-column-preserved
 loop-column-preserved c =

@@ -4,7 +4,7 @@ use Rattle.std.proofs.lemmas.Result.{err_from_is_err_and}
 use Rattle.vx_chunks.specs.Bounds.{total}
 use Rattle.vx_column.specs.Columns.{len_of, IsSound, IsOf}
 use Rattle.vx_column.proofs.Cuts.{all_last, total_last, only_memory_of_sum}
-use Rattle.vx_column.proofs.column.Chunked+Column.join.Goals as goal
+use Rattle.vx_column.proofs.chunked.Chunked+Column.join.Goals as goal
 
 pub bounds-requires : goal.bounds-requires
 bounds-requires c = subst (All IsSound) (sym (c.as_slice.ensures.value ∙ c.in_ok-chunks.ensures.ok)) (all_last IsSound c.args.front c.args.middle.now c.args.back c.requires.sound)
