@@ -38,7 +38,7 @@ pub fn run_plan<L: Ledger>(
     ensures select { AreBounded parts.items plan.now
         → IfOk result (λ a. (n : ℕ) → select_bound a.column n ≤ rows_bound parts.items n) }
 {
-    let columns = open_parts(alloc, parts, steps)?;
+    let columns = open_parts(alloc, parts.as_slice(), steps)?;
     let first = columns.as_slice()[0].share(alloc)?;
     run_steps(alloc, columns.as_slice(), first, plan, steps)
 }

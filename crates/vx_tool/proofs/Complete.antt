@@ -1,13 +1,14 @@
 -- Where neither end fails, the bytes decide the status, unless memory runs out.
-use Rattle.std.proofs.Common.{◌≡◌, ◌≤◌, ◌<◌, ℕ, List, length, Some, None, inl, inr, refl, sym, ◌∙◌, subst, arith}
+use Rattle.std.proofs.Common.{◌≡◌, ◌≤◌, ◌<◌, ℕ, List, [], length, Some, None, inl, inr, refl, sym, ◌∙◌, subst, arith}
 use Rattle.std.specs.declared.option.Option.{Option}
+use Rattle.std.specs.Io.KnownBytes.{Keeps}
 use Rattle.vx_job.specs.Plans.{Reaches, IsPlanError}
 use Rattle.vx_plan.proofs.Headline.{no_error}
-use Rattle.vx_ends.specs.Moved.{taken_len, Tells}
+use Rattle.vx_ends.specs.Moved.{taken_len, Tells, TakesFront}
 use Rattle.vx_job.specs.JobView.{JobView}
 use Rattle.vx_json.specs.Bytes.{HasNoJob}
 use Rattle.vx_json.proofs.Jobs.{one_job}
-use Rattle.vx_tool.specs.Outcome.{limit, AnswersBytes, Outcome, Replies, status_of, IsOwed, IsUnlessMemory}
+use Rattle.vx_tool.specs.Outcome.{limit, AnswersBytes, HasReply, Stops, Writes, Outcome, Replies, status_of, IsOwed, IsUnlessMemory}
 use Rattle.vx_tool.specs.declared.reply.Reply.{Reply}
 use Rattle.vx_tool.specs.declared.reply.Reply.TheVariants as reply
 use Rattle.vx_tool.specs.declared.status.Status.{Status}
@@ -81,3 +82,48 @@ complete status.OutOfMemory wanted left left' held held' before after bytes h is
 complete status.TooLong wanted left left' held held' before after bytes h is owed usage read write =
     let more : limit < taken_len left left' = h.0 (rw is refl) in
     inl (long_settles wanted bytes (omega (arith, taken_within left left' bytes is, more)) owed)
+
+-- ---- the outcome of each way that a run ends
+
+-- a reply that was made, and what writing it answers
+pub written_outcome : (s : Status) (r : Reply) (left left' held held' : Option (List ℕ)) (before after : ℕ) → HasReply left left' r before after → Writes s r held held'
+    → Outcome s left left' held held' before after
+written_outcome status.Ok r left left' held held' before after has w = record { reply = r; kind = w.0; has = has; written = w.1 }
+written_outcome status.Refused r left left' held held' before after has w = record { reply = r; kind = w.0; has = has; written = w.1 }
+written_outcome status.Usage r left left' held held' before after has w = absurd w
+written_outcome status.NotAJob r left left' held held' before after has w = absurd w
+written_outcome status.ReadFault r left left' held held' before after has w = absurd w
+written_outcome status.WriteFault r left left' held held' before after has w = record { reply = r; has = has; written = w }
+written_outcome status.OutOfMemory r left left' held held' before after has w = inr (record { reply = r; has = has; written = w })
+written_outcome status.TooLong r left left' held held' before after has w = absurd w
+
+-- no reply was made, and nothing was written
+pub stopped_outcome : (s : Status) (left left' held held' : Option (List ℕ)) (before after : ℕ) → Stops s left left' → Keeps held held' → Outcome s left left' held held' before after
+stopped_outcome status.Ok left left' held held' before after stops same = absurd stops
+stopped_outcome status.Refused left left' held held' before after stops same = absurd stops
+stopped_outcome status.Usage left left' held held' before after stops same = absurd stops
+stopped_outcome status.NotAJob left left' held held' before after stops same = (stops, same)
+stopped_outcome status.ReadFault left left' held held' before after stops same = same
+stopped_outcome status.WriteFault left left' held held' before after stops same = absurd stops
+stopped_outcome status.OutOfMemory left left' held held' before after stops same = inl same
+stopped_outcome status.TooLong left left' held held' before after stops same = (stops, same)
+
+pub keeps_same : (held : Option (List ℕ)) → Keeps held held
+keeps_same None = tt
+keeps_same (Some bytes) = refl
+
+pub takes_nothing : (left : Option (List ℕ)) → TakesFront left left
+takes_nothing None = ([], tt)
+takes_nothing (Some bytes) = ([], refl)
+
+pub never_usage : (s : Status) (r : Reply) (held held' : Option (List ℕ)) → Writes s r held held' → s ≡ status.Usage → ⊥
+never_usage s r held held' w e = subst (λ (z : Status). Writes z r held held') e w
+
+pub never_read_fault : (s : Status) (r : Reply) (held held' : Option (List ℕ)) → Writes s r held held' → s ≡ status.ReadFault → ⊥
+never_read_fault s r held held' w e = subst (λ (z : Status). Writes z r held held') e w
+
+pub stops_no_usage : (s : Status) (left left' : Option (List ℕ)) → Stops s left left' → s ≡ status.Usage → ⊥
+stops_no_usage s left left' stops e = subst (λ (z : Status). Stops z left left') e stops
+
+pub stops_no_write_fault : (s : Status) (left left' : Option (List ℕ)) → Stops s left left' → s ≡ status.WriteFault → ⊥
+stops_no_write_fault s left left' stops e = subst (λ (z : Status). Stops z left left') e stops
