@@ -1,5 +1,5 @@
 -- From where a halving search ends to the place of a value.
-use Rattle.std.proofs.Common.{◌≡◌, ℕ, zero, suc, ◌+◌, ◌≤◌, ◌<◌, Bool, true, false, cond, List, [], ◌∷◌, length, get_or, refl, sym, ap, ◌∙◌, arith, inl, inr, ◌≢◌}
+use Rattle.std.proofs.Common.{◌≡◌, ℕ, zero, suc, ◌+◌, ◌≤◌, ◌<◌, Bool, true, false, cond, List, [], ◌∷◌, length, get_or, refl, sym, ap, subst, ◌∙◌, arith, inl, inr, ◌≢◌}
 use Rattle.std.proofs.lemmas.Bool.{cases_lt}
 use Rattle.std.specs.List.{count_by, list_any}
 use Rattle.std.specs.List.Sorted.{IsNonDecreasingBy}
@@ -193,6 +193,14 @@ zero_lt Greater e = absurd (omega arith)
 pub less_upto : (os : List Ordering) (n : ℕ) → Ascends (asked_at Whole os) n → (k m : ℕ) → k ≤ m → m < n → is_lt (get_or os m Less) ≡ true → is_lt (get_or os k Less) ≡ true
 less_upto os n up k m h b e = zero_lt (get_or os k Less) (omega (arith, up k m h b, lt_zero (get_or os m Less) e))
 
-pub told_lt : {E V : Type 0} (R : E → V → Ordering) (xs : List E) (v : V) (k : ℕ) → k < length xs
-    → is_some_and is_lt (slice_get (standing R xs v) k) ≡ is_lt (get_or (standing R xs v) k Less)
-told_lt R xs v k h = ap (is_some_and is_lt) (slice_get-get_or (standing R xs v) k Less (omega (arith, h, length_standing R xs v)))
+-- what a searcher tells in a later state, of the elements as they were
+pub told_lt : {E V : Type 0} (R : E → V → Ordering) (xs ys : List E) (v : V) (k : ℕ) (b : Bool) → ys ≡ xs → k < length xs
+    → b ≡ is_some_and is_lt (slice_get (standing R ys v) k) → is_lt (get_or (standing R xs v) k Less) ≡ b
+told_lt R xs ys v k b same h told =
+    let inside : k < length (standing R xs v) = omega (arith, h, length_standing R xs v) in
+    let here : b ≡ is_some_and is_lt (slice_get (standing R xs v) k) = subst (λ zs. b ≡ is_some_and is_lt (slice_get (standing R zs v) k)) same told in
+    sym (here ∙ ap (is_some_and is_lt) (slice_get-get_or (standing R xs v) k Less inside))
+
+pub told_asked : {E V : Type 0} (q : Question) (R : E → V → Ordering) (xs ys : List E) (v : V) (k : ℕ) (o : Ordering) → ys ≡ xs
+    → o ≡ asked_at q (standing R ys v) k → o ≡ asked_at q (standing R xs v) k
+told_asked q R xs ys v k o same told = subst (λ zs. o ≡ asked_at q (standing R zs v) k) same told

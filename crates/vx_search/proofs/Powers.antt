@@ -44,6 +44,9 @@ log_fits n = power_fits n 0 n (omega arith)
 pub log_least : (n k : ℕ) → n ≤ 2 ^ k → log_up n ≤ k
 log_least n k h = power_least n 0 n k (omega arith) h
 
+pub log_below : (n k : ℕ) → k < log_up n → 2 ^ k < n
+log_below n k h = elim (cases_lt (2 ^ k) n) as (λ _. 2 ^ k < n) [ inl less ↦ less | inr fits ↦ absurd (omega (arith, log_least n k fits)) ]
+
 pub log_le : (m n : ℕ) → m ≤ n → log_up m ≤ log_up n
 log_le m n h = log_least m (log_up n) (omega (arith, log_fits n))
 
@@ -76,7 +79,7 @@ spent_last now next old cost s n some spent rise =
     let e = ap (λ k. k * cost) (rounds_some n some) in
     omega (arith, e)
 
-twice_rounds : (n : ℕ) → search_bound n ≡ 2 * rounds n
+pub twice_rounds : (n : ℕ) → search_bound n ≡ 2 * rounds n
 unfolding search_bound
 twice_rounds zero = refl
 twice_rounds (suc n) = omega arith
@@ -117,6 +120,11 @@ pub least_by : (old middle next n : ℕ) → middle ≤ next → old + rounds (n
 least_by old middle next n h one =
     let same : rounds (n - 0) ≡ rounds n = ap rounds (omega arith) in
     omega (arith, same)
+
+pub again_by : (old middle next n p m : ℕ) → p ≡ m → old + rounds (n - 0) ≤ middle → middle + rounds m ≤ next → old + rounds n + rounds p ≤ next
+again_by old middle next n p m e one two =
+    let same : rounds (n - 0) ≡ rounds n = ap rounds (omega arith) in
+    omega (arith, same, ap rounds e)
 
 -- one more than a power of two has a greater logarithm
 pub over_power : (s : ℕ) → 2 ^ log_up s ≤ s → log_up s + 1 ≤ log_up (s + 1)

@@ -4,7 +4,7 @@ use Rattle.std.specs.declared.cmp.Ordering.{Ordering}
 use Rattle.vx_rows.specs.declared.error.ColumnError.{ColumnError}
 use Rattle.vx_rows.specs.declared.error.ColumnError.TheVariants.{OutOfMemory}
 
--- the only cause is want of memory, and that only where memory is taken
+-- the only cause is running out of memory, and that only where memory is taken
 abbrev pub MemoryCause : Bool → ColumnError → Type 0
 MemoryCause takes e = (e ≡ OutOfMemory) × IsTrue takes
 

@@ -1,5 +1,5 @@
 -- What one halving search asks and answers. How the elements answer is a function of the place.
-use Rattle.std.specs.Prelude.{◌≡◌, true, false, ℕ, zero, suc, ◌+◌, ◌≤◌, ◌<◌, List, slice_index_or}
+use Rattle.std.specs.Prelude.{◌≡◌, true, false, ℕ, zero, suc, ◌+◌, ◌-◌, ◌≤◌, ◌<◌, List, slice_index_or}
 use Rattle.std.specs.declared.cmp.Ordering.{Ordering}
 use Rattle.std.specs.declared.cmp.Ordering.TheVariants.{Less, Equal, Greater}
 use Rattle.std.specs.Ordering.{ordering_index, is_lt}
@@ -65,3 +65,13 @@ EdgeOf Right f n border = (k : ℕ) → k < n → f k ≡ Equal → k ≤ border
 abbrev pub IsPlaceBy : (ℕ → Ordering) → ℕ → ℕ → SearchResult → Type 0
 IsPlaceBy f n border (Found i) = (i ≡ border) × ((k : ℕ) × (k < n) × (f k ≡ Equal))
 IsPlaceBy f n border (NotFound i) = (i ≤ n) × AnswersFrom f Less 0 i × AnswersFrom f Greater i n
+
+-- how many places are on a side of one, with the place itself on the right
+abbrev pub beside : SearchSortedSide → ℕ → ℕ → ℕ
+beside Left n k = k
+beside Right n k = n - k
+
+-- where a place is equal, a search beside such a place is counted too
+abbrev pub CountsAgain : (ℕ → Ordering) → SearchSortedSide → ℕ → ℕ → ℕ → SearchResult → Type 0
+CountsAgain f side n old new (Found i) = (k : ℕ) × (k < n) × (f k ≡ Equal) × (old + rounds n + rounds (beside side n k) ≤ new)
+CountsAgain f side n old new (NotFound i) = Unit {0}

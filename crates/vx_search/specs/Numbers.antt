@@ -1,4 +1,4 @@
--- How a number or a nothing stands to a number, and which type of integers a column has.
+-- How a number or null stands to a number, and which type of integers a column has.
 use Rattle.std.specs.Prelude.{ℤ, pos, Option, Some, None}
 use Rattle.std.specs.declared.cmp.Ordering.{Ordering}
 use Rattle.std.specs.declared.cmp.Ordering.TheVariants.{Less, Equal, Greater}
@@ -7,12 +7,12 @@ use Rattle.vx_rows.specs.declared.kinds.PType.{PType}
 use Rattle.vx_rows.specs.declared.dtype.DType.{DType, out-DType}
 use Rattle.vx_rows.specs.declared.dtype.DType.TheOpen.{DType-F}
 
--- a nothing counts as zero
+-- null counts as zero
 abbrev pub or_zero : Option ℤ → ℤ
 or_zero None = pos 0
 or_zero (Some z) = z
 
--- nothing comes first
+-- null comes first
 abbrev pub maybe_cmp : {V : Type 0} → (V → ℤ) → Option ℤ → Option V → Ordering
 maybe_cmp value None None = Equal
 maybe_cmp value None (Some y) = Less

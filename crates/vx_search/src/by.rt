@@ -3,7 +3,7 @@ ghost use Rattle.std.specs.Prelude.{◌≡◌, ℕ, ◌+◌, ◌-◌, ◌*◌, �
 ghost use Rattle.std.specs.Fn.{Called};
 ghost use Rattle.std.specs.declared.cmp.Ordering.{Ordering};
 ghost use Rattle.vx_search.specs.Closures.{AnswersBelow, RefusesBelow};
-ghost use Rattle.vx_search.specs.Halving.{Ascends, EdgeOf, IsBorder, IsPlaceBy, IsWhere, rounds};
+ghost use Rattle.vx_search.specs.Halving.{Ascends, CountsAgain, EdgeOf, IsBorder, IsPlaceBy, IsWhere, rounds};
 ghost use Rattle.vx_search.specs.Places.{index_of, search_bound};
 
 use crate::result::{SearchResult, SearchSortedSide};
@@ -82,6 +82,8 @@ pub(crate) fn search_both_by<
     ensures err { IfErr result (λ e. RefusesBelow F.FnMut len (rounds len) find e ⊎ RefusesBelow N.FnMut len (rounds len) side_find e) }
     ensures rise { steps.new ≤ steps.old + search_bound len }
     ensures least { IfOk result (λ _. steps.old + rounds len ≤ steps.new) }
+    ensures again { (f : ℕ → Ordering) → AnswersBelow F.FnMut len (λ k r. IfOk r (λ o. o ≡ f k)) (rounds len) find
+        → Ascends f len → IfOk result (CountsAgain f side len steps.old steps.new) }
     ensures monotone { steps.old ≤ steps.new }
 {
     let found = match halve_by(find, 0, len, steps)? {

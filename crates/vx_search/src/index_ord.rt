@@ -22,7 +22,7 @@ pub trait IndexOrd<V> {
     /// The most that one comparison raises the steps by.
     ghost cmp_cost: { Self → ℕ };
 
-    /// Whether a comparison may want memory.
+    /// Whether a comparison may run out of memory.
     ghost takes_memory: { Self → Bool };
 
     /// The number of elements.
@@ -46,7 +46,7 @@ pub trait IndexOrd<V> {
         ensures same_memory { takes_memory self.new ≡ takes_memory self.old };
 
     /// Whether the element at `idx` is less than the value.
-    fn index_lt<L: Ledger>(&mut self, idx: usize, elem: &V, steps: &mut Steps<L>) -> Res<bool>
+    final fn index_lt<L: Ledger>(&mut self, idx: usize, elem: &V, steps: &mut Steps<L>) -> Res<bool>
         requires { idx < length (sequence self.old) }
         ensures ok { IfOk result (λ b. b ≡ is_some_and is_lt (slice_get (standing stands (sequence self.old) elem.now) idx)) }
         ensures err { IfErr result (MemoryCause (takes_memory self.old)) }
@@ -60,7 +60,7 @@ pub trait IndexOrd<V> {
     }
 
     /// Whether the element at `idx` is less than the value or equal to it.
-    fn index_le<L: Ledger>(&mut self, idx: usize, elem: &V, steps: &mut Steps<L>) -> Res<bool>
+    final fn index_le<L: Ledger>(&mut self, idx: usize, elem: &V, steps: &mut Steps<L>) -> Res<bool>
         requires { idx < length (sequence self.old) }
         ensures ok { IfOk result (λ b. b ≡ is_some_and is_le (slice_get (standing stands (sequence self.old) elem.now) idx)) }
         ensures err { IfErr result (MemoryCause (takes_memory self.old)) }
@@ -77,7 +77,7 @@ pub trait IndexOrd<V> {
     }
 
     /// Whether the element at `idx` is greater than the value.
-    fn index_gt<L: Ledger>(&mut self, idx: usize, elem: &V, steps: &mut Steps<L>) -> Res<bool>
+    final fn index_gt<L: Ledger>(&mut self, idx: usize, elem: &V, steps: &mut Steps<L>) -> Res<bool>
         requires { idx < length (sequence self.old) }
         ensures ok { IfOk result (λ b. b ≡ is_some_and is_gt (slice_get (standing stands (sequence self.old) elem.now) idx)) }
         ensures err { IfErr result (MemoryCause (takes_memory self.old)) }
@@ -91,7 +91,7 @@ pub trait IndexOrd<V> {
     }
 
     /// Whether the element at `idx` is greater than the value or equal to it.
-    fn index_ge<L: Ledger>(&mut self, idx: usize, elem: &V, steps: &mut Steps<L>) -> Res<bool>
+    final fn index_ge<L: Ledger>(&mut self, idx: usize, elem: &V, steps: &mut Steps<L>) -> Res<bool>
         requires { idx < length (sequence self.old) }
         ensures ok { IfOk result (λ b. b ≡ is_some_and is_ge (slice_get (standing stands (sequence self.old) elem.now) idx)) }
         ensures err { IfErr result (MemoryCause (takes_memory self.old)) }

@@ -2,21 +2,31 @@
 ghost use Rattle.std.specs.Prelude.{◌≡◌};
 ghost use Rattle.vx_rows.specs.declared.kinds.PType.{PType};
 
-use num_traits::PrimInt;
+use num_traits::{Number, PrimInt};
 use vx_base::PType;
 
+/// An integer that has a number of more bits. It is all that a comparison asks of an integer: what is generic over it alone
+/// carries no fact of `PrimInt`.
+pub trait Wide: Copy + Number {
+    /// The same number, with more bits.
+    fn wide(self) -> i128
+        ensures { result ≡ Self.value self };
+}
+
 /// The eight integer types that a column may have.
-pub trait NativeInt: PrimInt {
+pub trait NativeInt: PrimInt + Wide {
     /// The column's type of these integers.
     ghost kind: { PType };
 
     /// The column's type of these integers.
     fn ptype() -> PType
         ensures { result ≡ kind };
+}
 
-    /// The same number, with more bits.
-    fn wide(self) -> i128
-        ensures { result ≡ Self.value self };
+impl Wide for u8 {
+    fn wide(self) -> i128 {
+        i128::from(self)
+    }
 }
 
 impl NativeInt for u8 {
@@ -27,7 +37,9 @@ impl NativeInt for u8 {
     fn ptype() -> PType {
         PType::U8
     }
+}
 
+impl Wide for u16 {
     fn wide(self) -> i128 {
         i128::from(self)
     }
@@ -41,7 +53,9 @@ impl NativeInt for u16 {
     fn ptype() -> PType {
         PType::U16
     }
+}
 
+impl Wide for u32 {
     fn wide(self) -> i128 {
         i128::from(self)
     }
@@ -55,7 +69,9 @@ impl NativeInt for u32 {
     fn ptype() -> PType {
         PType::U32
     }
+}
 
+impl Wide for u64 {
     fn wide(self) -> i128 {
         i128::from(self)
     }
@@ -69,7 +85,9 @@ impl NativeInt for u64 {
     fn ptype() -> PType {
         PType::U64
     }
+}
 
+impl Wide for i8 {
     fn wide(self) -> i128 {
         i128::from(self)
     }
@@ -83,7 +101,9 @@ impl NativeInt for i8 {
     fn ptype() -> PType {
         PType::I8
     }
+}
 
+impl Wide for i16 {
     fn wide(self) -> i128 {
         i128::from(self)
     }
@@ -97,7 +117,9 @@ impl NativeInt for i16 {
     fn ptype() -> PType {
         PType::I16
     }
+}
 
+impl Wide for i32 {
     fn wide(self) -> i128 {
         i128::from(self)
     }
@@ -111,7 +133,9 @@ impl NativeInt for i32 {
     fn ptype() -> PType {
         PType::I32
     }
+}
 
+impl Wide for i64 {
     fn wide(self) -> i128 {
         i128::from(self)
     }
@@ -124,9 +148,5 @@ impl NativeInt for i64 {
 
     fn ptype() -> PType {
         PType::I64
-    }
-
-    fn wide(self) -> i128 {
-        i128::from(self)
     }
 }

@@ -1,16 +1,16 @@
 //! Searchers over integers.
 ghost use Rattle.std.specs.Prelude.{◌≡◌, Some};
-ghost use Rattle.vx_search.specs.Numbers.{ptype_of};
+ghost use Rattle.vx_search.specs.Numbers.{maybe_cmp, ptype_of};
 
 use crate::index_ord::IndexOrd;
-use crate::native::NativeInt;
+use crate::native::{NativeInt, Wide};
 use crate::readers::{FlatReader, RowReader, SliceReader};
 use std::cmp::Ordering;
 use std::marker::{Model, PhantomData};
 use vx_base::{FlatColumn, Ledger, Res, Steps};
 
-/// A searcher over integers. Its needles are of an integer type, to which nothing counts as zero, or options of it, to
-/// which nothing comes first. Contracts see the reader.
+/// A searcher over integers. Its needles are of an integer type, to which null counts as zero, or options of it, to
+/// which null comes first. Contracts see the reader.
 #[derive(Drop)]
 pub struct SearchSortedPrimitiveArray<T, R> {
     reader: R,
@@ -23,7 +23,7 @@ impl<T, R> Model for SearchSortedPrimitiveArray<T, R> {
     ghost view = { λ s. s.reader };
 }
 
-impl<T: NativeInt, R: RowReader> SearchSortedPrimitiveArray<T, R> {
+impl<T: Wide, R: RowReader> SearchSortedPrimitiveArray<T, R> {
     /// A searcher over what the reader reads.
     pub fn over(reader: R) -> Self
         ensures { result ≡ reader }
@@ -43,7 +43,7 @@ impl<T: NativeInt, R: RowReader> SearchSortedPrimitiveArray<T, R> {
     }
 }
 
-impl<'a, T: NativeInt> SearchSortedPrimitiveArray<T, SliceReader<'a, T>> {
+impl<'a, T: Wide> SearchSortedPrimitiveArray<T, SliceReader<'a, T>> {
     /// A searcher over these integers.
     pub fn from_slice(values: &'a [T]) -> Self
         ensures { result ≡ values.now }
@@ -62,7 +62,7 @@ impl<'a, T: NativeInt> SearchSortedPrimitiveArray<T, FlatReader<'a>> {
     }
 }
 
-impl<T: NativeInt, R: RowReader> IndexOrd<T> for SearchSortedPrimitiveArray<T, R> {
+impl<T: Wide, R: RowReader> IndexOrd<T> for SearchSortedPrimitiveArray<T, R> {
     ghost use Rattle.std.specs.Prelude.{ℤ, Option};
     ghost use Rattle.std.specs.Ordering.{int_cmp};
     ghost use Rattle.vx_search.specs.Numbers.{or_zero};
@@ -92,9 +92,8 @@ impl<T: NativeInt, R: RowReader> IndexOrd<T> for SearchSortedPrimitiveArray<T, R
     }
 }
 
-impl<T: NativeInt, R: RowReader> IndexOrd<Option<T>> for SearchSortedPrimitiveArray<T, R> {
+impl<T: Wide, R: RowReader> IndexOrd<Option<T>> for SearchSortedPrimitiveArray<T, R> {
     ghost use Rattle.std.specs.Prelude.{ℤ, Option};
-    ghost use Rattle.vx_search.specs.Numbers.{maybe_cmp};
 
     ghost Element = { Option ℤ };
 
@@ -117,16 +116,23 @@ impl<T: NativeInt, R: RowReader> IndexOrd<Option<T>> for SearchSortedPrimitiveAr
         steps: &mut Steps<L>,
     ) -> Res<Option<Ordering>> {
         let number = self.reader.int_at(idx, steps)?;
-        Ok(Some(match (number, elem) {
-            (Some(x), Some(y)) => x.cmp(&y.wide()),
-            (Some(_), None) => Ordering::Greater,
-            (None, Some(_)) => Ordering::Less,
-            (None, None) => Ordering::Equal,
-        }))
+        Ok(Some(null_first(number, elem)))
     }
 }
 
-/// A searcher over integers whose needles are places, compared as numbers. Nothing counts as zero. Contracts see the
+/// How a number or null stands to another.
+fn null_first<T: Wide>(number: Option<i128>, elem: &Option<T>) -> Ordering
+    ensures { result ≡ maybe_cmp T.value number elem.now }
+{
+    match (number, elem) {
+        (Some(x), Some(y)) => x.cmp(&y.wide()),
+        (Some(_), None) => Ordering::Greater,
+        (None, Some(_)) => Ordering::Less,
+        (None, None) => Ordering::Equal,
+    }
+}
+
+/// A searcher over integers whose needles are places, compared as numbers. Null counts as zero. Contracts see the
 /// reader.
 #[derive(Drop)]
 pub struct PlaceSearch<R> {

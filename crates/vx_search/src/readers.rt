@@ -3,11 +3,11 @@ ghost use Rattle.std.specs.Prelude.{◌≡◌, ℕ, ℤ, ◌+◌, ◌<◌, ◌�
 ghost use Rattle.vx_base.specs.Numbers.{is_integer};
 ghost use Rattle.vx_search.specs.Answers.{MemoryCause};
 
-use crate::native::NativeInt;
+use crate::native::Wide;
 use std::marker::Model;
 use vx_base::{FlatColumn, Ledger, Res, Steps};
 
-/// A list of numbers and nothings that is read entry by entry.
+/// A list of numbers and nulls that is read entry by entry.
 pub trait RowReader {
     /// The list.
     ghost numbers: { Self → List (Option ℤ) };
@@ -15,7 +15,7 @@ pub trait RowReader {
     /// The most that one read raises the steps by.
     ghost read_cost: { Self → ℕ };
 
-    /// Whether a read may want memory.
+    /// Whether a read may run out of memory.
     ghost takes_memory: { Self → Bool };
 
     /// The number of entries.
@@ -57,7 +57,7 @@ impl<'a, T> SliceReader<'a, T> {
     }
 }
 
-impl<'a, T: NativeInt> RowReader for SliceReader<'a, T> {
+impl<'a, T: Wide> RowReader for SliceReader<'a, T> {
     ghost use Rattle.std.specs.Prelude.{false, map, Some};
 
     ghost numbers = { λ values. map (λ x. Some (T.value x)) values };

@@ -6,7 +6,7 @@ ghost use Rattle.vx_search.specs.Answers.{MemoryCause, standing};
 ghost use Rattle.vx_search.specs.Places.{place, search_bound};
 ghost use Rattle.std.specs.declared.cmp.Ordering.{Ordering};
 ghost use Rattle.vx_search.specs.Closures.{AnswersBelow, RefusesBelow};
-ghost use Rattle.vx_search.specs.Halving.{asked, asked_at, Ascends, EdgeOf, IsBorder, IsPlaceBy, IsWhere, rounds};
+ghost use Rattle.vx_search.specs.Halving.{asked, asked_at, Ascends, CountsAgain, EdgeOf, IsBorder, IsPlaceBy, IsWhere, rounds};
 
 use crate::by::search_both_by;
 use crate::index_ord::IndexOrd;
@@ -18,7 +18,7 @@ use vx_base::{Ledger, Res, Steps};
 pub trait SearchSorted<T>: IndexOrd<T> + Sized {
     /// The place of a value in a sequence that is sorted: before the equal elements on the left side, behind them on the
     /// right, and where it belongs if there is none. Raises the steps by its comparisons alone, and refuses as they do.
-    fn search_sorted<L: Ledger>(
+    final fn search_sorted<L: Ledger>(
         &mut self,
         value: &T,
         side: SearchSortedSide,
@@ -38,8 +38,9 @@ pub trait SearchSorted<T>: IndexOrd<T> + Sized {
 
     /// The place that two closures tell, which answer by the index alone. Where `find` answers Equal anywhere, it is the
     /// border of `side_find`, which answers Less below it and Greater from there on; else it is the number of indices at
-    /// which `find` answers Less. Each question raises the steps by one, and a refusal of a closure is passed on.
-    fn search_sorted_by<
+    /// which `find` answers Less. Each question raises the steps by one, those of the second search too, and a refusal of a
+    /// closure is passed on.
+    final fn search_sorted_by<
         F: FnMut(usize) -> Res<Ordering>,
         N: FnMut(usize) -> Res<Ordering>,
         L: Ledger,
@@ -61,6 +62,9 @@ pub trait SearchSorted<T>: IndexOrd<T> + Sized {
             IfErr result (λ e. RefusesBelow F.FnMut len (rounds len) find e ⊎ RefusesBelow N.FnMut len (rounds len) side_find e) }
         ensures rise { steps.new ≤ steps.old + search_bound (length (Self.sequence self.old)) }
         ensures least { IfOk result (λ _. steps.old + rounds (length (Self.sequence self.old)) ≤ steps.new) }
+        ensures again { let len = length (Self.sequence self.old) in (f : ℕ → Ordering)
+            → AnswersBelow F.FnMut len (λ k r. IfOk r (λ o. o ≡ f k)) (rounds len) find
+            → Ascends f len → IfOk result (CountsAgain f side len steps.old steps.new) }
         ensures monotone { steps.old ≤ steps.new }
         ensures same { Self.sequence self.new ≡ Self.sequence self.old }
         ensures same_cost { Self.cmp_cost self.new ≡ Self.cmp_cost self.old }

@@ -1,9 +1,9 @@
 use Rattle.std.proofs.Common.{arith, subst, sym, ap, ◌≡◌, ◌∙◌, ℕ, ◌+◌, ◌-◌, ◌≤◌, inl, inr, IfOk}
 use Rattle.std.proofs.lemmas.Result.{err_from_is_err_and}
 use Rattle.vx_search.specs.Places.{index_of, search_bound}
-use Rattle.vx_search.specs.Halving.{IsWhere, rounds}
+use Rattle.vx_search.specs.Halving.{IsWhere, beside, rounds}
 use Rattle.vx_search.specs.declared.result.SearchResult.TheVariants.{Found}
-use Rattle.vx_search.proofs.Powers.{first_by, second_by, least_by, rounds_le}
+use Rattle.vx_search.proofs.Powers.{first_by, second_by, least_by, again_by, rounds_le}
 use Rattle.vx_search.proofs.Borders.{at_border, border_ascends, inside_left, inside_right}
 use Rattle.vx_search.proofs.Calls.{answers_upto, refuses_upto}
 use Rattle.vx_search.proofs.by.search_both_by.Goals as goal
@@ -78,6 +78,21 @@ returns-clause-least g c =
       | in-Left+in_ok-edge-in-Left w ↦ subst P (sym w.steps-is) (least_by c.args.steps.now c.halve_by.new.steps w.halve_by-in-Left.new.steps c.args.len w.halve_by-in-Left.ensures.monotone c.in_ok-place.ensures.least)
       | in-Right+in_ok-edge-in-Right w ↦ subst P (sym w.steps-is) (least_by c.args.steps.now c.halve_by.new.steps w.halve_by-in-Right.new.steps c.args.len w.halve_by-in-Right.ensures.monotone c.in_ok-place.ensures.least)
     ]
+
+pub returns-clause-again : goal.returns-clause-again
+returns-clause-again g c = λ f find up.
+    let n = c.args.len in
+    let found = c.in-Found.found in
+    let here : IsWhere f 0 n (Found found) = subst (IsWhere f 0 n) c.in-Found.is (c.in_ok-place.ensures.ok f (answers_upto g.F.FnMut n (λ k r. IfOk r (λ o. o ≡ f k)) n (rounds n) (rounds (n - 0)) (omega arith) (rounds_le (n - 0) n (omega arith)) c.args.find find) up) in
+    let P : ℕ → Type 0 = λ s. c.args.steps.now + rounds n + rounds (beside c.args.side n found) ≤ s in (
+      found,
+      here.1,
+      here.2,
+      elim c.match-side.branch [
+        | in-Left+in_ok-edge-in-Left w ↦ subst P (sym w.steps-is) (again_by c.args.steps.now c.halve_by.new.steps w.halve_by-in-Left.new.steps n (beside c.args.side n found) (found - 0) (ap (λ s. beside s n found) w.in-Left.is ∙ omega arith) c.in_ok-place.ensures.least w.in_ok-edge-in-Left.ensures.least)
+        | in-Right+in_ok-edge-in-Right w ↦ subst P (sym w.steps-is) (again_by c.args.steps.now c.halve_by.new.steps w.halve_by-in-Right.new.steps n (beside c.args.side n found) (n - found) (ap (λ s. beside s n found) w.in-Right.is) c.in_ok-place.ensures.least w.in_ok-edge-in-Right.ensures.least)
+      ],
+    )
 
 pub returns-clause-ok : goal.returns-clause-ok
 returns-clause-ok g c = λ f s border find side_find up edges side.

@@ -1,7 +1,6 @@
-use Rattle.std.proofs.Common.{rules, arith, sym, ap, ◌≡◌, ◌∙◌, ◌+◌, ◌-◌, ◌/◌, true, false, length, slice_index_or}
+use Rattle.std.proofs.Common.{rules, arith, ◌≡◌, ◌∙◌, ◌+◌, ◌-◌, ◌/◌, true, false, length, slice_index_or}
 use Rattle.std.specs.declared.cmp.Ordering.TheVariants.{Less}
-use Rattle.std.specs.Ordering.{is_lt, is_some_and}
-use Rattle.std.specs.List.{slice_get}
+use Rattle.std.specs.Ordering.{is_lt}
 use Rattle.vx_search.specs.Answers.{standing}
 use Rattle.vx_search.proofs.Powers.{spent_more}
 use Rattle.vx_search.proofs.Counts.{ascends_standing, less_upto, told_lt}
@@ -23,8 +22,7 @@ loop-first-preserved-then-branch g c =
     let os = standing g.S.IndexOrd.stands xs v in
     let middle = c.loop-first.first + (c.loop-first.end - c.loop-first.first) / 2 in
     let size = c.loop-first.end - c.loop-first.first + 1 in
-    let here : c.in_ok-index_lt.field-0 ≡ is_some_and is_lt (slice_get os middle) = c.in_ok-index_lt.ensures.ok ∙ ap (λ s. is_some_and is_lt (slice_get (standing g.S.IndexOrd.stands s v) middle)) c.loop-first.invariant.same in
-    let yes : is_lt (slice_index_or os middle Less) ≡ true = sym (told_lt g.S.IndexOrd.stands xs v middle (omega arith)) ∙ sym here ∙ c.if-branch.true in
+    let yes : is_lt (slice_index_or os middle Less) ≡ true = told_lt g.S.IndexOrd.stands xs (g.S.IndexOrd.sequence c.loop-first.seq) v middle c.in_ok-index_lt.field-0 c.loop-first.invariant.same (omega arith) c.in_ok-index_lt.ensures.ok ∙ c.if-branch.true in
     record {
       front = omega arith;
       some = omega arith;
@@ -46,8 +44,7 @@ loop-first-preserved g c =
     let os = standing g.S.IndexOrd.stands xs v in
     let middle = c.loop-first.first + (c.loop-first.end - c.loop-first.first) / 2 in
     let size = c.loop-first.end - c.loop-first.first + 1 in
-    let here : c.in_ok-index_lt.field-0 ≡ is_some_and is_lt (slice_get os middle) = c.in_ok-index_lt.ensures.ok ∙ ap (λ s. is_some_and is_lt (slice_get (standing g.S.IndexOrd.stands s v) middle)) c.loop-first.invariant.same in
-    let no : is_lt (slice_index_or os middle Less) ≡ false = sym (told_lt g.S.IndexOrd.stands xs v middle (omega arith)) ∙ sym here ∙ c.if-branch.false in
+    let no : is_lt (slice_index_or os middle Less) ≡ false = told_lt g.S.IndexOrd.stands xs (g.S.IndexOrd.sequence c.loop-first.seq) v middle c.in_ok-index_lt.field-0 c.loop-first.invariant.same (omega arith) c.in_ok-index_lt.ensures.ok ∙ c.if-branch.false in
     record {
       front = omega arith;
       some = omega arith;

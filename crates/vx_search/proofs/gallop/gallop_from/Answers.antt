@@ -1,7 +1,6 @@
 use Rattle.std.proofs.Common.{rules, arith, subst, sym, ap, ◌≡◌, ◌∙◌, ◌+◌, ◌-◌, ◌*◌, ◌<◌, ◌≤◌, true, length, slice_index_or, refl}
 use Rattle.std.specs.declared.cmp.Ordering.TheVariants.{Less}
-use Rattle.std.specs.Ordering.{is_lt, is_some_and}
-use Rattle.std.specs.List.{slice_get}
+use Rattle.std.specs.Ordering.{is_lt}
 use Rattle.vx_search.specs.Answers.{standing}
 use Rattle.vx_search.specs.Halving.{log_up, rounds, IsFirstFrom}
 use Rattle.vx_search.proofs.Powers.{IsGallop, gallop_next, gallop_rounds, gallop_rise, map_ok}
@@ -20,8 +19,7 @@ loop-stride-preserved g c =
     let cost = g.S.IndexOrd.cmp_cost c.args.seq.now in
     let w = c.loop-stride.low - c.args.start in
     let inside : place < length xs = omega (arith, c.index_len-len.ensures) in
-    let here : c.in_ok-index_lt.field-0 ≡ is_some_and is_lt (slice_get os place) = c.in_ok-index_lt.ensures.ok ∙ ap (λ s. is_some_and is_lt (slice_get (standing g.S.IndexOrd.stands s v) place)) c.loop-stride.invariant.same in
-    let yes : is_lt (slice_index_or os place Less) ≡ true = sym (told_lt g.S.IndexOrd.stands xs v place inside) ∙ sym here ∙ c.if-not-branch.false in
+    let yes : is_lt (slice_index_or os place Less) ≡ true = told_lt g.S.IndexOrd.stands xs (g.S.IndexOrd.sequence c.loop-stride.seq) v place c.in_ok-index_lt.field-0 c.loop-stride.invariant.same inside c.in_ok-index_lt.ensures.ok ∙ c.if-not-branch.false in
     let moved : c.args.start + stride + 1 - c.args.start ≡ stride + 1 = omega arith in
     record {
       front = omega arith;

@@ -4,6 +4,7 @@ use Rattle.vx_search.specs.Answers.{standing}
 use Rattle.vx_search.specs.Halving.{asked_at, IsWhere}
 use Rattle.vx_search.proofs.Powers.{spent_more}
 use Rattle.vx_search.proofs.Halvings.{IsHalved, halved_up, halved_down, found_here, behind_it, before_it, passed, failed}
+use Rattle.vx_search.proofs.Counts.{told_asked}
 use Rattle.vx_search.proofs.search.halve.Goals as goal
 use Rattle.vx_search.proofs.search.halve.Goals.{then-ne, else-ne, in-Equal, in-Less, in-Greater}
 
@@ -13,7 +14,7 @@ loop-size-preserved g c =
     let size = c.loop-size.size in
     let half = size / 2 in
     let P : ℕ → Type 0 = λ b. IsHalved f c.args.from c.args.to b (size - half) in
-    let at : c.in_ok-ask.field-0 ≡ f (c.loop-size.base + half) = c.in_ok-ask.ensures.ok ∙ ap (λ s. asked_at c.args.question (standing g.S.IndexOrd.stands s c.args.value.now) (c.loop-size.base + half)) c.loop-size.invariant.same in
+    let at : c.in_ok-ask.field-0 ≡ f (c.loop-size.base + half) = told_asked c.args.question g.S.IndexOrd.stands (g.S.IndexOrd.sequence c.args.seq.now) (g.S.IndexOrd.sequence c.loop-size.seq) c.args.value.now (c.loop-size.base + half) c.in_ok-ask.field-0 c.loop-size.invariant.same c.in_ok-ask.ensures.ok in
     record {
       halved = elim c.if-ne.branch [
         | then-ne w ↦ subst P (sym w.base-is) (halved_up f c.args.from c.args.to c.loop-size.base size half c.loop-size.invariant.halved (omega arith) (omega arith) (subst (λ o. o ≢ Greater) at (passed c.in_ok-ask.field-0 c.ne.result c.ne.ensures w.if-ne.true)))
@@ -32,7 +33,7 @@ returns-clause-ok g c =
     let base = c.loop-size.base in
     let size = c.loop-size.size in
     let halved = c.loop-size.invariant.halved in
-    let at : c.in_ok-ask-2.field-0 ≡ f base = c.in_ok-ask-2.ensures.ok ∙ ap (λ s. asked_at c.args.question (standing g.S.IndexOrd.stands s c.args.value.now) base) c.loop-size.invariant.same in
+    let at : c.in_ok-ask-2.field-0 ≡ f base = told_asked c.args.question g.S.IndexOrd.stands (g.S.IndexOrd.sequence c.args.seq.now) (g.S.IndexOrd.sequence c.loop-size.seq) c.args.value.now base c.in_ok-ask-2.field-0 c.loop-size.invariant.same c.in_ok-ask-2.ensures.ok in
     elim c.match-branch-3.branch [
       | in-Equal w ↦ subst (IsWhere f c.args.from c.args.to) (sym w.result-is) (found_here f c.args.from c.args.to base size halved (sym at ∙ w.in-Equal.is))
       | in-Less w ↦ subst (IsWhere f c.args.from c.args.to) (sym w.result-is) (behind_it f c.args.from c.args.to base size c.requires.ascends halved (omega arith) (sym at ∙ w.in-Less.is))

@@ -1,7 +1,7 @@
 -- Both closures only look at the four values, which stay as they are.
 use Rattle.std.proofs.Common.{rules, ◌≡◌, length}
 use Rattle.vx_search.proofs.Calls.{answers_by}
-use Rattle.vx_search_vectors.proofs.closures.finds_by_closures_before_a_run.Goals as goal
+use Rattle.vx_search.proofs.tests.finds_by_closures.Goals as goal
 
 pub search_sorted_by-requires-clause-find : goal.search_sorted_by-requires-clause-find
 search_sorted_by-requires-clause-find c =
