@@ -1,4 +1,4 @@
-use Rattle.std.proofs.Common.{rules, arith, subst, sym, ap, ◌≡◌, ◌∙◌, ◌≢◌, ℕ, ◌+◌, ◌-◌, ◌/◌}
+use Rattle.std.proofs.Common.{rules, arith, subst, sym, ◌≡◌, ◌∙◌, ◌≢◌, ℕ, ◌+◌, ◌-◌, ◌/◌}
 use Rattle.std.specs.declared.cmp.Ordering.TheVariants.{Greater}
 use Rattle.vx_search.specs.Answers.{standing}
 use Rattle.vx_search.specs.Halving.{asked_at, IsWhere}
