@@ -27,6 +27,13 @@ first_is [] cs x o some at = absurd (omega arith)
 first_is (p ∷ ps) [] x o some at = absurd o
 first_is (p ∷ ps) (c ∷ cs) x o some at = (o, subst (IsOpened p) (sym at) o.0)
 
+-- the columns that are lent, where they are those that were opened
+pub first_of : (ps qs : List Part) (cs ds es : List Column) (x y : Column) → qs ≡ ps → AreOpened qs cs → 0 < length qs → ds ≡ cs → es ≡ cs → x ≡ get_or ds 0 x → y ≡ x → IsFirst ps es y
+first_of ps qs cs ds es x y p o some d e at same =
+    let at_first : x ≡ get_or cs 0 x = subst (λ (zs : List Column). x ≡ get_or zs 0 x) d at in
+    subst (λ (rs : List Part). IsFirst rs es y) p
+    (subst (λ (zs : List Column). IsFirst qs zs y) (sym e) (subst (IsFirst qs cs) (sym same) (first_is qs cs x o some at_first)))
+
 pub first_sound : (ps : List Part) (cs : List Column) (x : Column) → IsFirst ps cs x → IsSound x
 first_sound [] cs x f = absurd f
 first_sound (p ∷ ps) cs x f = f.1.sound
@@ -38,12 +45,11 @@ clean_all ps cs o = All-from_recursion IsClean ps (parts_clean ps cs o)
 pub first_reaches : (ps : List Part) (cs : List Column) (x : Column) (plan : List Step) (answers : List Answer) (last : Flat) → IsFirst ps cs x
     → RunsTo (map flat_of cs) 0 (flat_of x) plan answers last → Reaches ps plan answers last
 first_reaches [] cs x plan answers last f run = absurd f
-first_reaches (p ∷ ps) cs x plan answers last f run =
-    (
-      clean_all (p ∷ ps) cs f.0,
-      subst (λ (s : List Flat). RunsTo s 0 (part_flat p) plan answers last) (flats_same (p ∷ ps) cs f.0)
+first_reaches (p ∷ ps) cs x plan answers last f run = (
+  clean_all (p ∷ ps) cs f.0,
+  subst (λ (s : List Flat). RunsTo s 0 (part_flat p) plan answers last) (flats_same (p ∷ ps) cs f.0)
       (subst (λ (c : Flat). RunsTo (map flat_of cs) 0 c plan answers last) (same_flat p x f.1) run),
-    )
+)
 
 pub first_error : (ps : List Part) (cs : List Column) (x : Column) (plan : List Step) (e : ColumnError) → IsFirst ps cs x
     → (e ≡ OutOfMemory) ⊎ StopsWith (map flat_of cs) 0 (flat_of x) plan e → (e ≡ OutOfMemory) ⊎ IsPlanError ps plan e
@@ -53,7 +59,7 @@ first_error (p ∷ ps) cs x plan e f (inr error) =
     inr (inr (
       clean_all (p ∷ ps) cs f.0,
       subst (λ (s : List Flat). StopsWith s 0 (part_flat p) plan e) (flats_same (p ∷ ps) cs f.0)
-      (subst (λ (c : Flat). StopsWith (map flat_of cs) 0 c plan e) (same_flat p x f.1) error),
+          (subst (λ (c : Flat). StopsWith (map flat_of cs) 0 c plan e) (same_flat p x f.1) error),
     ))
 
 -- ---- opening the parts, and then the steps

@@ -133,6 +133,28 @@ pub interleaved_down : (ps : List Part) (ai ri : Flat) (cs : List Column) (fault
 interleaved_down ps ai ri cs fault o h =
     subst (λ ts. IsInterleaveFault ts (map part_len ps) ai ri fault) (types_same ps cs o) (subst (λ ns. IsInterleaveFault (map type_of cs) ns ai ri fault) (lens_same ps cs o) h)
 
+-- the same of equal columns
+pub lanes_told : (t : DType) (len n o : ℕ) (lo lo' is is' vs vs' : Flat) (fault : Option Fault) → lo' ≡ lo → is' ≡ is → vs' ≡ vs
+    → IsLanesFault t len n o lo' is' vs' fault → IsLanesFault t len n o lo is vs fault
+lanes_told t len n o lo lo' is is' vs vs' fault e f g h =
+    subst (λ (x : Flat). IsLanesFault t len n o x is vs fault) e
+    (subst (λ (x : Flat). IsLanesFault t len n o lo' x vs fault) f
+    (subst (λ (x : Flat). IsLanesFault t len n o lo' is' x fault) g h))
+
+pub exceptions_told : (t : DType) (len o : ℕ) (is is' : Flat) (v : DType) (count : ℕ) (co co' : Option Flat) (fault : Option Fault) → is' ≡ is → co' ≡ co
+    → IsExceptionsFault t len o is' v count co' fault → IsExceptionsFault t len o is v count co fault
+exceptions_told t len o is is' v count co co' fault e f h =
+    subst (λ (x : Flat). IsExceptionsFault t len o x v count co fault) e
+    (subst (λ (x : Option Flat). IsExceptionsFault t len o is' v count x fault) f h)
+
+pub interleaved_told : (ts : List DType) (lens : List ℕ) (ai ai' ri ri' : Flat) (fault : Option Fault) → ai' ≡ ai → ri' ≡ ri
+    → IsInterleaveFault ts lens ai' ri' fault → IsInterleaveFault ts lens ai ri fault
+interleaved_told ts lens ai ai' ri ri' fault e f h =
+    subst (λ (x : Flat). IsInterleaveFault ts lens x ri fault) e (subst (λ (x : Flat). IsInterleaveFault ts lens ai' x fault) f h)
+
+pub fits_told : (t t' : DType) (r r' : Option Value) → t' ≡ t → r' ≡ r → IsTrue (row_fits t' r') → IsTrue (row_fits t r)
+fits_told t t' r r' e f h = subst (λ (x : DType). IsTrue (row_fits x r)) e (subst (λ (x : Option Value). IsTrue (row_fits t' x)) f h)
+
 -- opened parts
 pub opened_flat : (c : Flat) (x : Column) → x ≡ column.Flat c → IsSound x → IsOpened (part.Flat c) x
 opened_flat c x is s = subst (IsOpened (part.Flat c)) (sym is) (record {

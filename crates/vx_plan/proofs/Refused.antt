@@ -1,7 +1,7 @@
 -- Why parts aren't opened: the faults of the parts, by those that their columns tell.
-use Rattle.std.proofs.Common.{◌≡◌, ◌⊎◌, inl, inr, ℕ, ◌+◌, ◌≤◌, ◌<◌, ◌^◌, List, [], ◌∷◌, ◌++◌, map, length, take, get_or, refl, sym, ◌∙◌, ap, subst, arith, Option, Some, IsTrue}
+use Rattle.std.proofs.Common.{◌≡◌, ◌⊎◌, inl, inr, ℕ, ◌+◌, ◌≤◌, ◌<◌, ◌^◌, List, [], ◌∷◌, ◌++◌, map, length, take, drop, get_or, refl, sym, ◌∙◌, ap, subst, arith, Option, Some, IsTrue}
 use Rattle.std.specs.List.{All, AllByRecursion}
-use Rattle.std.proofs.lemmas.List.{length-append, take_at}
+use Rattle.std.proofs.lemmas.List.{length-append, length-take-le, take_at, take_more, drop_more, take-append-drop}
 use Rattle.std.proofs.lemmas.List.Elements.{All-from_recursion, recursion_from_All}
 use Rattle.vx_rows.specs.Fits.{row_fits}
 use Rattle.vx_base.specs.Column.{Flat, RefusesMisfit}
@@ -21,7 +21,7 @@ use Rattle.vx_job.specs.declared.part.Part.{Part, out-Part}
 use Rattle.vx_job.specs.declared.part.Part.TheOpen.{Part-F}
 use Rattle.vx_job.specs.declared.part.Part.TheVariants.{outs-Constant, outs-Chunked, outs-Lanes, outs-Excepted, outs-Interleaved}
 use Rattle.vx_job.specs.declared.part.Part.TheVariants as part
-use Rattle.vx_plan.proofs.Opened.{lens_same, parts_clean, types_up, lanes_down, exceptions_down, interleaved_down}
+use Rattle.vx_plan.proofs.Opened.{opened_push, lens_same, parts_clean, types_up, lanes_down, exceptions_down, interleaved_down, interleaved_told}
 
 -- ---- a fault of the part's own
 
@@ -78,6 +78,15 @@ fault_interleaved ps ai ri cs e o cause =
     own_told (part.Interleaved ps ai ri) (Part-F.Interleaved ps ai ri) e (outs-Interleaved ps ai ri) (parts_clean ps cs o)
     (cause_in (IsInterleaveFault (map type_of cs) (map len_of cs) ai ri) (IsInterleaveFault (map part_type ps) (map part_len ps) ai ri) e (λ f. interleaved_down ps ai ri cs f o) cause)
 
+-- the same of equal values
+pub misfit_told : (t t' : DType) (r r' : Option Value) (e : ColumnError) → t' ≡ t → r' ≡ r → RefusesMisfit (row_fits t' r') e → RefusesMisfit (row_fits t r) e
+misfit_told t t' r r' e f g h = subst (λ (x : DType). RefusesMisfit (row_fits x r) e) f (subst (λ (x : Option Value). RefusesMisfit (row_fits t' x) e) g h)
+
+pub interleaved_cause : (ts : List DType) (lens : List ℕ) (ai ai' ri ri' : Flat) (e : ColumnError) → ai' ≡ ai → ri' ≡ ri
+    → MadeCause (IsInterleaveFault ts lens ai' ri') e → MadeCause (IsInterleaveFault ts lens ai ri) e
+interleaved_cause ts lens ai ai' ri ri' e f g =
+    cause_in (IsInterleaveFault ts lens ai' ri') (IsInterleaveFault ts lens ai ri) e (λ fault. interleaved_told ts lens ai ai' ri ri' fault f g)
+
 -- ---- a fault of a part within
 
 -- the refusal of a part, as the part that holds it tells
@@ -110,6 +119,14 @@ fault_behind ps rest x n e clean h (inr (path, f, same, at)) =
 pub fault_in : (ps rest : List Part) (cs : List Column) (x : Part) (parts : List Part) (n : ℕ) (e : ColumnError) → ps ++ (x ∷ rest) ≡ parts → AreOpened ps cs → n ≡ length ps → IsFaultUnder n x e → IsFaultIn parts e
 fault_in ps rest cs x parts n e all o h under = subst (λ qs. IsFaultIn qs e) all (fault_behind ps rest x n e (parts_clean ps cs o) h under)
 
+split_at : (parts : List Part) (k : ℕ) (x : Part) → k < length parts → x ≡ get_or parts k x → take k parts ++ (x ∷ drop (k + 1) parts) ≡ parts
+split_at parts k x h at = ap (λ (rest : List Part). take k parts ++ rest) (ap (λ d. d ∷ drop (k + 1) parts) at ∙ sym (drop_more parts k x h)) ∙ take-append-drop k parts
+
+-- the fault of a part at its place
+pub fault_at : (parts : List Part) (k : ℕ) (cs : List Column) (x : Part) (e : ColumnError) → k < length parts → x ≡ get_or parts k x → AreOpened (take k parts) cs → IsFaultUnder k x e → IsFaultIn parts e
+fault_at parts k cs x e h at o under =
+    fault_in (take k parts) (drop (k + 1) parts) cs x parts k e (split_at parts k x h at) o (sym (length-take-le k parts (omega arith))) under
+
 -- the first fault of the parts within is that of the part
 within_told : (self : Part) (y : Part-F Part) (e : ColumnError) → out-Part self ≡ y → IsFaultIn (children y) e → IsFaultOf self e
 within_told self y e is (inl memory) = inl memory
@@ -139,3 +156,16 @@ within_values b o is v co c e base under =
 pub open_cost_at : (ps : List Part) (x : Part) (rest : List Part) → open_cost (ps ++ (x ∷ rest)) ≡ open_cost ps + (part_open_cost x + open_cost rest)
 open_cost_at [] x rest = omega arith
 open_cost_at (p ∷ ps) x rest = omega (arith, open_cost_at ps x rest)
+
+-- the same at a place
+pub cost_at : (parts : List Part) (k : ℕ) (x : Part) → k < length parts → x ≡ get_or parts k x
+    → (open_cost (take (k + 1) parts) ≡ open_cost (take k parts) + part_open_cost x) × (open_cost (take k parts) + part_open_cost x ≤ open_cost parts)
+cost_at parts k x h at =
+    let more : open_cost (take (k + 1) parts) ≡ open_cost (take k parts ++ x ∷ []) = ap open_cost (take_more parts k x h ∙ ap (λ (d : Part). take k parts ++ d ∷ []) (sym at)) in
+    (omega (arith, more, open_cost_at (take k parts) x []), omega (arith, ap open_cost (split_at parts k x h at), open_cost_at (take k parts) x (drop (k + 1) parts)))
+
+-- one column more
+pub opened_more : (parts : List Part) (k : ℕ) (cs : List Column) (x : Part) (c : Column) → k < length parts → x ≡ get_or parts k x → AreOpened (take k parts) cs → IsOpened x c
+    → AreOpened (take (k + 1) parts) (cs ++ c ∷ [])
+opened_more parts k cs x c h at o opened =
+    subst (λ (ps : List Part). AreOpened ps (cs ++ c ∷ [])) (ap (λ (d : Part). take k parts ++ d ∷ []) at ∙ sym (take_more parts k x h)) (opened_push (take k parts) cs x c o opened)

@@ -43,7 +43,7 @@ continues_on sources first plan k c answers step h at so free =
     record {
       runs = λ rest last run.
           subst (λ (xs : List Answer). RunsTo sources 0 first plan xs last) (sym (append_assoc answers given rest))
-          (so.runs (given ++ rest) last (subst (λ p. RunsTo sources k c p (given ++ rest) last) here (free, rest, refl, run)));
+          (so.runs (given ++ rest) last (subst (λ p. RunsTo sources k c p (given ++ rest) last) here (free, (rest, refl, run))));
       stops = λ e stop. so.stops e (subst (λ p. StopsWith sources k c p e) here (inr (free, stop)));
     }
 
@@ -70,14 +70,14 @@ cost_more point select plan k d h = ap (plan_cost point select) (take_more plan 
     cost-append [] step = omega arith
     cost-append (s ∷ plan) step = omega (arith, cost-append plan step)
 
-cost_part : (point : ℕ) (select : ℕ → ℕ) (plan : List Step) (k : ℕ) → plan_cost point select (take k plan) ≤ plan_cost point select plan
+pub cost_part : (point : ℕ) (select : ℕ → ℕ) (plan : List Step) (k : ℕ) → plan_cost point select (take k plan) ≤ plan_cost point select plan
 cost_part point select [] zero = omega arith
 cost_part point select [] (suc k) = omega arith
 cost_part point select (s ∷ plan) zero = omega arith
 cost_part point select (s ∷ plan) (suc k) = omega (arith, cost_part point select plan k)
 
 -- a column's costs are no more than those of an earlier one
-select_less : (x y : Column) → CostsNoMore x y → (n : ℕ) → select_bound y n ≤ select_bound x n
+pub select_less : (x y : Column) → CostsNoMore x y → (n : ℕ) → select_bound y n ≤ select_bound x n
 select_less x y costs n = omega (arith, mul-le-mul_left (8 * n) costs.point, costs.lanes)
 
 cost_less : (point first : ℕ) (select whole : ℕ → ℕ) (step : Step) → point ≤ first → ((n : ℕ) → select n ≤ whole n) → step_cost point select step ≤ step_cost first whole step
@@ -103,6 +103,9 @@ rise_at first column plan k step old mid new h at costs r s =
     cost_less (point_cost column) point (select_bound column) select step costs.point (select_less first column costs) in
     let now : new ≤ old + plan_cost point select (take (k + 1) plan) = omega arith in
     (now, omega (arith, cost_part point select plan (k + 1)))
+
+pub costs_same : (x : Column) → CostsNoMore x x
+costs_same x = record { dtype = refl; point = omega arith; cut = omega arith; lanes = omega arith; plain = λ h. h }
 
 -- costs from a column to one after the next
 pub costs_on : (x y z : Column) → CostsNoMore x y → CostsNoMore y z → CostsNoMore x z

@@ -4,11 +4,11 @@ ghost use Rattle.vx_column.specs.Columns.{IsSound, type_of, rows_of, len_of, sel
 ghost use Rattle.vx_plan.specs.AnswersView.{answers_view};
 ghost use Rattle.vx_job.specs.PageView.{page_view};
 
-use vx_job::{Answer, Page};
 use std::alloc::Global;
 use std::marker::Model;
 use vx_base::{ColumnError, DType, Ledger, Res, Seq, Steps};
 use vx_column::Column;
+use vx_job::{Answer, Page};
 
 /// The answers of a plan in order, and its last column.
 #[derive(Drop)]

@@ -40,7 +40,7 @@ pub fn open_part<L: Ledger>(alloc: Global, part: &Part, steps: &mut Steps<L>) ->
     match part {
         Part::Flat(rows) => open_flat(rows),
         Part::Constant { dtype, row, len } => open_constant(alloc, dtype, row, *len),
-        Part::Chunked { dtype, chunks } => open_chunked(alloc, dtype, chunks.as_slice(), steps),
+        Part::Chunked { dtype, chunks } => open_chunked(alloc, chunks.as_slice(), dtype, steps),
         Part::Lanes {
             inner,
             n_lanes,
@@ -64,7 +64,15 @@ pub fn open_part<L: Ledger>(alloc: Global, part: &Part, steps: &mut Steps<L>) ->
             indices,
             values,
             chunk_offsets,
-        } => open_excepted(alloc, base.get(), *offset, indices, values.get(), chunk_offsets, steps),
+        } => open_excepted(
+            alloc,
+            base.get(),
+            *offset,
+            indices,
+            values.get(),
+            chunk_offsets,
+            steps,
+        ),
         Part::Interleaved {
             values,
             array_indices,
@@ -94,8 +102,8 @@ fn open_constant(alloc: Global, dtype: &DType, row: &Row, len: usize) -> Res<Col
 #[cycle(open)]
 fn open_chunked<L: Ledger>(
     alloc: Global,
-    dtype: &DType,
     chunks: &[Part],
+    dtype: &DType,
     steps: &mut Steps<L>,
 ) -> Res<Column>
     ensures ok { IfOk result (λ column. IsOpened (chunked dtype.now chunks.now) column) }
@@ -126,14 +134,17 @@ fn open_lanes<L: Ledger>(
     ensures monotone { steps.old ≤ steps.new }
 {
     let inner = open_child(alloc, 0, inner, steps)?;
+    let lane_offsets = lane_offsets.share()?;
+    let indices = indices.share()?;
+    let values = values.share()?;
     let array = PatchedArray::try_new(
         alloc,
         inner,
         n_lanes,
         offset,
-        lane_offsets.share()?,
-        indices.share()?,
-        values.share()?,
+        lane_offsets,
+        indices,
+        values,
         steps,
     )?;
     Ok(Column::Patched(array))

@@ -64,9 +64,7 @@ fn run_steps<L: Ledger>(
     let mut answers = Vec::new(alloc);
     for (number, step) in plan.iter().enumerate() {
         let next = take_step(alloc, number, sources, &column, step, &mut answers, steps)?;
-        if let Some(next) = next {
-            column = next;
-        }
+        column = next.unwrap_or(column);
     }
     Ok(Answers::new(Seq::from_vec(answers), column))
 }

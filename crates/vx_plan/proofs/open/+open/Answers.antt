@@ -1,129 +1,108 @@
-use Rattle.std.proofs.Common.{◌≡◌, List, [], ◌∷◌, ◌++◌, length, subst, sym, ap, ◌∙◌, arith, append_assoc, length-append}
-use Rattle.std.specs.Vec.Iter.{into_iter_items}
+use Rattle.std.proofs.Common.{◌≡◌, ◌+◌, List, map, take, sym, ◌∙◌, subst, arith, None}
+use Rattle.std.specs.List.{All}
 use Rattle.std.proofs.lemmas.Result.{err_from_is_err_and}
+use Rattle.vx_rows.specs.declared.dtype.DType.{DType}
+use Rattle.vx_patches.specs.Making.{made as made_of}
+use Rattle.vx_lanes.specs.Layouts.{layout}
+use Rattle.vx_interleave.specs.Selections.{selection}
+use Rattle.vx_column.specs.Columns.{type_of, len_of, IsOf, ChunksCause}
 use Rattle.vx_column.specs.declared.column.Column.{Column}
-use Rattle.vx_job.specs.declared.part.Part.{Part}
-use Rattle.vx_job.specs.Parts.{IsFaultUnder, open_cost}
-use Rattle.vx_plan.specs.Opened.{IsOpened, AreOpened}
-use Rattle.vx_plan.proofs.Opened.{opened_flat, opened_constant, opened_chunked, opened_lanes, opened_excepted, opened_interleaved, all_sound, opened_push}
-use Rattle.vx_plan.proofs.Refused.{fault_constant, fault_chunked, fault_interleaved, within_values, fault_in, open_cost_at}
+use Rattle.vx_plan.specs.Opened.{AreOpened}
+use Rattle.vx_plan.proofs.Opened.{lanes_told, exceptions_told, interleaved_told, opened_chunked, opened_lanes, opened_excepted, opened_interleaved, all_sound}
+use Rattle.vx_plan.proofs.Refused.{fault_chunked, fault_interleaved, interleaved_cause, fault_at, cost_at, opened_more}
 use Rattle.vx_plan.proofs.open.+open.Goals as goal
 
 -- ---- the parts before a column is made of them are sound
 
-pub Part::open-try_new-requires : goal.Part::open-try_new-requires
-Part::open-try_new-requires g t c = all_sound c.in-Chunked.chunks c.in_ok-columns-in-Chunked.columns.items c.in_ok-columns-in-Chunked.ensures.ok
+pub open_chunked-try_new-requires : goal.open_chunked-try_new-requires
+open_chunked-try_new-requires g t c = all_sound c.args.chunks.now c.in_ok-columns.columns.items c.in_ok-columns.ensures.ok
 
-pub Part::open-try_new-requires-in-Interleaved : goal.Part::open-try_new-requires-in-Interleaved
-Part::open-try_new-requires-in-Interleaved g t c = all_sound c.in-Interleaved.values c.in_ok-columns-in-Interleaved.columns.items c.in_ok-columns-in-Interleaved.ensures.ok
+pub open_interleaved-try_new-requires : goal.open_interleaved-try_new-requires
+open_interleaved-try_new-requires g t c = all_sound c.args.values.now c.in_ok-columns.columns.items c.in_ok-columns.ensures.ok
 
 -- ---- refusals
 
-pub Part::open-returns-in_err-rows-in-Constant-clause-err : goal.Part::open-returns-in_err-rows-in-Constant-clause-err
-Part::open-returns-in_err-rows-in-Constant-clause-err g t c =
-    let p = err_from_is_err_and c.from_residual.result c.from_residual.ensures.1 in
-    rw (p.1, p.2) (fault_constant c.args.self c.in-Constant.dtype c.in-Constant.row c.in-Constant.len c.in_err-rows-in-Constant.field-0.0 c.in-Constant.is c.in_err-rows-in-Constant.ensures.err)
+pub open_chunked-returns-in_err-array-clause-err : goal.open_chunked-returns-in_err-array-clause-err
+open_chunked-returns-in_err-array-clause-err g t c =
+    let p = err_from_is_err_and c.from_residual-in_err-array.result c.from_residual-in_err-array.ensures.1 in
+    rw (p.1, p.2) (fault_chunked c.args.dtype.now c.args.chunks.now c.in_ok-columns.columns.items c.in_err-array.field-0.0 c.in_ok-columns.ensures.ok
+    (subst (λ (t : DType). ChunksCause t c.in_ok-columns.columns.items c.in_err-array.field-0.0) c.in_ok-dtype.ensures.ok c.in_err-array.ensures.err))
 
-pub Part::open-returns-in_err-array-in-Chunked-clause-err : goal.Part::open-returns-in_err-array-in-Chunked-clause-err
-Part::open-returns-in_err-array-in-Chunked-clause-err g t c =
-    let p = err_from_is_err_and c.from_residual-in_err-array-in-Chunked.result c.from_residual-in_err-array-in-Chunked.ensures.1 in
-    rw (p.1, p.2) (fault_chunked c.args.self c.in-Chunked.dtype c.in-Chunked.chunks c.in_ok-columns-in-Chunked.columns.items c.in_err-array-in-Chunked.field-0.0 c.in-Chunked.is
-    c.in_ok-columns-in-Chunked.ensures.ok c.in_err-array-in-Chunked.ensures.err)
-
-pub Part::open-returns-in_err-values-in-Excepted-clause-err : goal.Part::open-returns-in_err-values-in-Excepted-clause-err
-Part::open-returns-in_err-values-in-Excepted-clause-err g t c =
-    let p = err_from_is_err_and c.from_residual-in_err-values-in-Excepted.result c.from_residual-in_err-values-in-Excepted.ensures.1 in
-    let x = c.in-Excepted in
-    rw (p.1, p.2) (within_values c.args.self x.base x.offset x.indices x.values x.chunk_offsets c.in_ok-base-in-Excepted.base c.in_err-values-in-Excepted.field-0.0 x.is
-    (subst (λ (p : Part). IsOpened p c.in_ok-base-in-Excepted.base) c.into_value-in-Excepted.ensures c.in_ok-base-in-Excepted.ensures.ok)
-    (subst (λ (p : Part). IsFaultUnder 1 p c.in_err-values-in-Excepted.field-0.0) c.into_value-in-Excepted-2.ensures c.in_err-values-in-Excepted.ensures.err))
-
-pub Part::open-returns-in_err-array-in-Interleaved-clause-err : goal.Part::open-returns-in_err-array-in-Interleaved-clause-err
-Part::open-returns-in_err-array-in-Interleaved-clause-err g t c =
-    let p = err_from_is_err_and c.from_residual-in_err-array-in-Interleaved.result c.from_residual-in_err-array-in-Interleaved.ensures.1 in
-    let x = c.in-Interleaved in
-    rw (p.1, p.2) (fault_interleaved c.args.self x.values x.array_indices x.row_indices c.in_ok-columns-in-Interleaved.columns.items c.in_err-array-in-Interleaved.field-0.0 x.is
-    c.in_ok-columns-in-Interleaved.ensures.ok c.in_err-array-in-Interleaved.ensures.err)
+pub open_interleaved-returns-in_err-array-clause-err : goal.open_interleaved-returns-in_err-array-clause-err
+open_interleaved-returns-in_err-array-clause-err g t c =
+    let p = err_from_is_err_and c.from_residual-in_err-array.result c.from_residual-in_err-array.ensures.1 in
+    rw (p.1, p.2) (fault_interleaved c.args.values.now c.args.array_indices.now c.args.row_indices.now c.in_ok-columns.columns.items c.in_err-array.field-0.0 c.in_ok-columns.ensures.ok
+    (interleaved_cause (map type_of c.in_ok-columns.columns.items) (map len_of c.in_ok-columns.columns.items) c.args.array_indices.now c.in_ok-array_indices.array_indices c.args.row_indices.now c.in_ok-row_indices.row_indices
+    c.in_err-array.field-0.0 c.in_ok-array_indices.ensures.ok c.in_ok-row_indices.ensures.ok c.in_err-array.ensures.err))
 
 -- ---- columns
 
-pub Part::open-returns-in-Flat-clause-ok : goal.Part::open-returns-in-Flat-clause-ok
-Part::open-returns-in-Flat-clause-ok g t c = opened_flat c.args.self c.in-Flat.rows c.in-Flat.is
+pub open_chunked-returns-clause-ok : goal.open_chunked-returns-clause-ok
+open_chunked-returns-clause-ok g t c =
+    let made = c.in_ok-array in
+    opened_chunked c.args.dtype.now c.args.chunks.now c.in_ok-columns.columns.items made.array c.in_ok-columns.ensures.ok
+    (made.ensures.chunks.0, made.ensures.chunks.1 ∙ c.in_ok-dtype.ensures.ok) made.ensures.sound made.ensures.fits
+    (subst (λ (t : DType). All (IsOf t) c.in_ok-columns.columns.items) c.in_ok-dtype.ensures.ok made.ensures.types)
 
-pub Part::open-returns-in_ok-rows-in-Constant-clause-ok : goal.Part::open-returns-in_ok-rows-in-Constant-clause-ok
-Part::open-returns-in_ok-rows-in-Constant-clause-ok g t c =
-    opened_constant c.args.self c.in-Constant.dtype c.in-Constant.row c.in-Constant.len c.in_ok-rows-in-Constant.rows c.in-Constant.is c.in_ok-rows-in-Constant.ensures.ok.0 c.in_ok-rows-in-Constant.ensures.ok.1
+pub open_lanes-returns-clause-ok : goal.open_lanes-returns-clause-ok
+open_lanes-returns-clause-ok g t c =
+    let made = c.in_ok-array in
+    let x = c.in_ok-inner.inner in
+    let n = c.args.n_lanes in
+    let o = c.args.offset in
+    let lo = c.in_ok-lane_offsets in
+    let is = c.in_ok-indices in
+    let vs = c.in_ok-values in
+    opened_lanes c.args.inner.now c.args.n_lanes c.args.offset c.args.lane_offsets.now c.args.indices.now c.args.values.now c.in_ok-inner.inner made.array c.in_ok-inner.ensures.ok
+    made.ensures.inner (made.ensures.lanes ∙ (λ i. layout (len_of x) n o (lo.ensures.ok i) (is.ensures.ok i) (vs.ensures.ok i))) made.ensures.sound
+    (lanes_told (type_of x) (len_of x) n o c.args.lane_offsets.now lo.lane_offsets c.args.indices.now is.indices c.args.values.now vs.values None lo.ensures.ok is.ensures.ok vs.ensures.ok made.ensures.clean)
 
-pub Part::open-returns-in_ok-array-in-Chunked-clause-ok : goal.Part::open-returns-in_ok-array-in-Chunked-clause-ok
-Part::open-returns-in_ok-array-in-Chunked-clause-ok g t c =
-    opened_chunked c.args.self c.in-Chunked.dtype c.in-Chunked.chunks c.in_ok-columns-in-Chunked.columns.items c.in_ok-array-in-Chunked.array c.in-Chunked.is c.in_ok-columns-in-Chunked.ensures.ok
-    c.in_ok-array-in-Chunked.ensures.chunks c.in_ok-array-in-Chunked.ensures.sound c.in_ok-array-in-Chunked.ensures.fits c.in_ok-array-in-Chunked.ensures.types
+pub open_excepted-returns-clause-ok : goal.open_excepted-returns-clause-ok
+open_excepted-returns-clause-ok g t c =
+    let made = c.in_ok-array in
+    let x = c.in_ok-base.base in
+    let v = c.in_ok-values.values in
+    let o = c.args.offset in
+    let is = c.in_ok-indices in
+    let co = c.in_ok-chunk_offsets in
+    opened_excepted c.args.base.now c.args.offset c.args.indices.now c.args.values.now c.args.chunk_offsets.now c.in_ok-base.base c.in_ok-values.values made.array c.in_ok-base.ensures.ok c.in_ok-values.ensures.ok
+    made.ensures.base made.ensures.values (made.ensures.index ∙ (λ i. made_of (len_of x) o (is.ensures.ok i) (co.ensures.ok i))) made.ensures.sound
+    (exceptions_told (type_of x) (len_of x) o c.args.indices.now is.indices (type_of v) (len_of v) c.args.chunk_offsets.now co.chunk_offsets None is.ensures.ok co.ensures.ok made.ensures.clean)
 
-pub Part::open-returns-in_ok-array-in-Lanes-clause-ok : goal.Part::open-returns-in_ok-array-in-Lanes-clause-ok
-Part::open-returns-in_ok-array-in-Lanes-clause-ok g t c =
-    let x = c.in-Lanes in
-    let made = c.in_ok-array-in-Lanes in
-    opened_lanes c.args.self x.inner x.n_lanes x.offset x.lane_offsets x.indices x.values c.in_ok-inner-in-Lanes.inner made.array x.is
-    (subst (λ (p : Part). IsOpened p c.in_ok-inner-in-Lanes.inner) c.into_value.ensures c.in_ok-inner-in-Lanes.ensures.ok)
-    made.ensures.inner made.ensures.lanes made.ensures.sound made.ensures.clean
-
-pub Part::open-returns-in_ok-array-in-Excepted-clause-ok : goal.Part::open-returns-in_ok-array-in-Excepted-clause-ok
-Part::open-returns-in_ok-array-in-Excepted-clause-ok g t c =
-    let x = c.in-Excepted in
-    let made = c.in_ok-array-in-Excepted in
-    opened_excepted c.args.self x.base x.offset x.indices x.values x.chunk_offsets c.in_ok-base-in-Excepted.base c.in_ok-values-in-Excepted.values made.array x.is
-    (subst (λ (p : Part). IsOpened p c.in_ok-base-in-Excepted.base) c.into_value-in-Excepted.ensures c.in_ok-base-in-Excepted.ensures.ok)
-    (subst (λ (p : Part). IsOpened p c.in_ok-values-in-Excepted.values) c.into_value-in-Excepted-2.ensures c.in_ok-values-in-Excepted.ensures.ok) made.ensures.base made.ensures.values made.ensures.index made.ensures.sound made.ensures.clean
-
-pub Part::open-returns-in_ok-array-in-Interleaved-clause-ok : goal.Part::open-returns-in_ok-array-in-Interleaved-clause-ok
-Part::open-returns-in_ok-array-in-Interleaved-clause-ok g t c =
-    let x = c.in-Interleaved in
-    let made = c.in_ok-array-in-Interleaved in
-    opened_interleaved c.args.self x.values x.array_indices x.row_indices c.in_ok-columns-in-Interleaved.columns.items made.array x.is c.in_ok-columns-in-Interleaved.ensures.ok
-    made.ensures.values made.ensures.selectors made.ensures.sound made.ensures.clean
+pub open_interleaved-returns-clause-ok : goal.open_interleaved-returns-clause-ok
+open_interleaved-returns-clause-ok g t c =
+    let made = c.in_ok-array in
+    opened_interleaved c.args.values.now c.args.array_indices.now c.args.row_indices.now c.in_ok-columns.columns.items made.array c.in_ok-columns.ensures.ok
+    made.ensures.values (made.ensures.selectors ∙ (λ i. selection (c.in_ok-array_indices.ensures.ok i) (c.in_ok-row_indices.ensures.ok i))) made.ensures.sound
+    (interleaved_told (map type_of c.in_ok-columns.columns.items) (map len_of c.in_ok-columns.columns.items) c.args.array_indices.now c.in_ok-array_indices.array_indices c.args.row_indices.now c.in_ok-row_indices.row_indices None
+    c.in_ok-array_indices.ensures.ok c.in_ok-row_indices.ensures.ok made.ensures.clean)
 
 -- ---- a list of parts
 
 pub open_all-returns-in_err-open_child-clause-err : goal.open_all-returns-in_err-open_child-clause-err
 open_all-returns-in_err-open_child-clause-err g t c =
-    let at = c.loop-part in
-    let x = c.in-Some.part in
-    let steps : into_iter_items at.part-iterator ≡ x ∷ into_iter_items c.next.new.self = c.in-Some.ensures.steps.0 in
+    let at = c.loop-number in
     let p = err_from_is_err_and c.from_residual.result c.from_residual.ensures.1 in
-    rw (p.1, p.2) (fault_in at.yielded (into_iter_items c.next.new.self) at.columns.items x c.args.parts at.number c.in_err-open_child.field-0.0
-    (ap (λ (r : List Part). at.yielded ++ r) (sym steps) ∙ at.invariant.split) at.invariant.opened at.invariant.count c.in_err-open_child.ensures.err)
+    rw (p.1, p.2) (fault_at c.args.parts.now at.number at.columns.items c.index-parts-number.result c.in_err-open_child.field-0.0 (omega arith) c.index-parts-number.is at.invariant.opened c.in_err-open_child.ensures.err)
 
 pub open_all-returns-in_err-open_child-clause-rise : goal.open_all-returns-in_err-open_child-clause-rise
 open_all-returns-in_err-open_child-clause-rise g t c =
-    let at = c.loop-part in
-    let x = c.in-Some.part in
-    let rest = into_iter_items c.next.new.self in
-    let steps : into_iter_items at.part-iterator ≡ x ∷ rest = c.in-Some.ensures.steps.0 in
-    let all : at.yielded ++ (x ∷ rest) ≡ c.args.parts = ap (λ (r : List Part). at.yielded ++ r) (sym steps) ∙ at.invariant.split in
-    omega (arith, at.invariant.rise, c.open_child.ensures.rise, open_cost_at at.yielded x rest, ap open_cost all)
+    let at = c.loop-number in
+    omega (arith, at.invariant.rise, c.open_child.ensures.rise, (cost_at c.args.parts.now at.number c.index-parts-number.result (omega arith) c.index-parts-number.is).1)
 
 pub open_all-returns-in_err-push-clause-rise : goal.open_all-returns-in_err-push-clause-rise
 open_all-returns-in_err-push-clause-rise g t c =
-    let at = c.loop-part in
-    let x = c.in-Some.part in
-    let rest = into_iter_items c.next.new.self in
-    let steps : into_iter_items at.part-iterator ≡ x ∷ rest = c.in-Some.ensures.steps.0 in
-    let all : at.yielded ++ (x ∷ rest) ≡ c.args.parts = ap (λ (r : List Part). at.yielded ++ r) (sym steps) ∙ at.invariant.split in
-    omega (arith, at.invariant.rise, c.open_child.ensures.rise, open_cost_at at.yielded x rest, ap open_cost all)
+    let at = c.loop-number in
+    omega (arith, at.invariant.rise, c.open_child.ensures.rise, (cost_at c.args.parts.now at.number c.index-parts-number.result (omega arith) c.index-parts-number.is).1)
 
-pub open_all-loop-part-preserved : goal.open_all-loop-part-preserved
-open_all-loop-part-preserved g t c =
-    let at = c.loop-part in
-    let x = c.in-Some.part in
-    let steps : into_iter_items at.part-iterator ≡ x ∷ into_iter_items c.next.new.self = c.in-Some.ensures.steps.0 in
+pub open_all-loop-number-preserved : goal.open_all-loop-number-preserved
+open_all-loop-number-preserved g t c =
+    let at = c.loop-number in
+    let parts = c.args.parts.now in
+    let x = c.index-parts-number.result in
     record {
-      next = tt;
-      finite = tt;
-      split = append_assoc at.yielded (x ∷ []) (into_iter_items c.next.new.self) ∙ ap (λ (r : List Part). at.yielded ++ r) (sym steps) ∙ at.invariant.split;
-      long = let was = at.invariant.long in let gone = c.in-Some.ensures.steps.1 in let short = ap length steps in omega arith;
-      opened = subst (λ (cs : List Column). AreOpened (at.yielded ++ x ∷ []) cs) (sym c.in_ok-push.ensures.items)
-          (opened_push at.yielded at.columns.items x c.in_ok-open_child.field-0 at.invariant.opened c.in_ok-open_child.ensures.ok);
-      count = omega (arith, at.invariant.count, length-append at.yielded (x ∷ []));
-      rise = omega (arith, at.invariant.rise, c.open_child.ensures.rise, open_cost_at at.yielded x []);
-      monotone = omega (arith, at.invariant.monotone, c.open_child.ensures.monotone);
+      opened = subst (λ (cs : List Column). AreOpened (take (at.number + 1) parts) cs) (sym c.in_ok-push.ensures.items)
+          (opened_more parts at.number at.columns.items x c.in_ok-open_child.field-0 (omega arith) c.index-parts-number.is at.invariant.opened c.in_ok-open_child.ensures.ok);
+      rise = omega (arith, at.invariant.rise, c.open_child.ensures.rise, (cost_at parts at.number x (omega arith) c.index-parts-number.is).0);
+      monotone = omega (arith, c.open_child.ensures.monotone, at.invariant.monotone);
     }
