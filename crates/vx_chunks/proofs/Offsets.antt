@@ -47,7 +47,7 @@ pub fit_more : (rows : List (Option Value)) (n : ℕ) → rows_fit offset_type r
 fit_more rows n f h =
     list_all-append (row_fits offset_type) rows (offset_row n ∷ []) ∙ and_from (rows_fit offset_type rows) (row_fits offset_type (offset_row n) && true) f (and_from (row_fits offset_type (offset_row n)) true (fits_one n h) refl)
 
--- rows that fit are refused for want of memory alone
+-- rows that fit are refused only where memory runs out
 pub only_memory : (fits : Bool) (e : ColumnError) → fits ≡ true → RefusesMisfit fits e → e ≡ OutOfMemory
 only_memory fits e h (inl memory) = memory
 only_memory fits e h (inr misfit) = absurd (false≢true (sym misfit.1 ∙ h))

@@ -17,10 +17,18 @@ use vx_search::{SearchSorted, SearchSortedSide, SortedSlice, search_bound};
 
 /// Where chunks begin and end: 0 and the running sums of their lengths, as numbers and as a flat column, both shared
 /// by all handles. Contracts see the lengths.
-#[derive(Drop)]
 pub struct Boundaries {
     ends: Shared<Vec<usize>>,
     offsets: FlatColumn,
+}
+
+impl Drop for Boundaries {
+    fn drop(self) {
+        let Boundaries {
+            ends: _,
+            offsets: _,
+        } = self;
+    }
 }
 
 impl Model for Boundaries {
@@ -110,6 +118,20 @@ impl Boundaries {
     /// The chunk that holds a row, never an empty one, and the row's place in it. An index at the length names the last
     /// chunk and its length, or (0, 0) where there is no chunk. Takes no memory.
     pub fn find_chunk_idx<L: Ledger>(&self, index: usize, steps: &mut Steps<L>) -> (usize, usize)
+        requires { index ≤ total self.now }
+        ensures row { total (take result.0 self.now) + result.1 ≡ index }
+        ensures inside { index < total self.now →
+            (result.0 < length self.now) × (result.1 < slice_index self.now result.0) }
+        ensures last { index ≡ total self.now →
+            (result.0 ≡ length self.now - 1) × (result.1 ≡ slice_index self.now result.0) }
+        ensures rise { steps.new ≤ steps.old + searched.search_bound (length self.now + 1) }
+        ensures monotone { steps.old ≤ steps.new }
+    {
+        self.place_of(index, steps)
+    }
+
+    /// The same: the search behind the call.
+    fn place_of<L: Ledger>(&self, index: usize, steps: &mut Steps<L>) -> (usize, usize)
         requires { index ≤ total self.now }
         ensures row { total (take result.0 self.now) + result.1 ≡ index }
         ensures inside { index < total self.now →

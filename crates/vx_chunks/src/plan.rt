@@ -49,6 +49,18 @@ impl Boundaries {
             + ends_cut range.start range.end (total self.now) * search_bound (length self.now + 1) }
         ensures monotone { steps.old ≤ steps.new }
     {
+        self.pieces(range, steps)
+    }
+
+    /// The same: the searches behind the call.
+    fn pieces<L: Ledger>(&self, range: Range<usize>, steps: &mut Steps<L>) -> SlicePlan
+        requires ordered { range.start ≤ range.end }
+        requires inside { range.end ≤ total self.now }
+        ensures plan { IsPlanOf self.now range.start range.end result }
+        ensures rise { steps.new ≤ steps.old
+            + ends_cut range.start range.end (total self.now) * search_bound (length self.now + 1) }
+        ensures monotone { steps.old ≤ steps.new }
+    {
         let Range { start, end } = range;
         if start == 0 && end == self.len() {
             return SlicePlan::Whole;

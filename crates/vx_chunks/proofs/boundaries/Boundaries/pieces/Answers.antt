@@ -1,8 +1,8 @@
 use Rattle.std.proofs.Common.{arith, ◌<◌}
 use Rattle.vx_chunks.specs.Plans.{IsFull}
 use Rattle.vx_chunks.proofs.Sums.{in_order}
-use Rattle.vx_chunks.proofs.boundaries.Boundaries.plan_slice.Goals as goal
-use Rattle.vx_chunks.proofs.boundaries.Boundaries.plan_slice.Goals.{else-start-eq0-via-then-start-eq0+else-end-len, else-start-eq0-via-else-start-eq0}
+use Rattle.vx_chunks.proofs.boundaries.Boundaries.pieces.Goals as goal
+use Rattle.vx_chunks.proofs.boundaries.Boundaries.pieces.Goals.{else-start-eq0-via-then-start-eq0+else-end-len, else-start-eq0-via-else-start-eq0}
 
 pub returns-clause-plan : goal.returns-clause-plan
 returns-clause-plan g c =

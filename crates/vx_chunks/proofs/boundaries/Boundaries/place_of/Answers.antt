@@ -1,7 +1,7 @@
 use Rattle.std.proofs.Common.{arith, ap, ◌≡◌, ◌-◌, length, take, get_or}
 use Rattle.vx_chunks.specs.Bounds.{total}
 use Rattle.vx_chunks.proofs.Sums.{total-last_or_none, begins_before, above_last}
-use Rattle.vx_chunks.proofs.boundaries.Boundaries.find_chunk_idx.Goals as goal
+use Rattle.vx_chunks.proofs.boundaries.Boundaries.place_of.Goals as goal
 
 pub overflow_sub-result : goal.overflow_sub-result
 overflow_sub-result g c =
