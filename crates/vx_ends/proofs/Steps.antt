@@ -1,8 +1,9 @@
 -- What calls one after another do to the bytes of an end.
-use Rattle.std.proofs.Common.{◌≡◌, ◌≤◌, ◌-◌, ◌+◌, ℕ, List, ◌++◌, length, take, drop, Option, Some, None, sym, ap, ◌∙◌, append_assoc, length-drop, arith}
+use Rattle.std.proofs.Common.{◌≡◌, ◌≤◌, ◌-◌, ◌+◌, ℕ, List, [], ◌++◌, length, take, drop, Option, Some, None, refl, sym, ap, ◌∙◌, append_assoc, length-drop, arith}
 use Rattle.std.specs.Io.KnownBytes.{Consumes, Appends}
 use Rattle.std.proofs.lemmas.List.{take_all}
 use Rattle.std.proofs.Math.Seq.{take-add}
+use Rattle.vx_ends.specs.Moved.{TakesFront}
 
 -- two reads take the bytes of both
 pub consumes_more : (a b c : Option (List ℕ)) (xs ys : List ℕ)
@@ -26,3 +27,8 @@ pub next_part : (text : List ℕ) (at n : ℕ)
 next_part text at n =
     let rest : length (drop at text) ≤ length text - at = omega (arith, length-drop at text) in
     rw (take_all _ _ rest) (take-add at n text)
+
+-- a call that takes no byte takes a front
+pub takes_none : (a : Option (List ℕ)) → TakesFront a a
+takes_none None = ([], tt)
+takes_none (Some x) = ([], refl)

@@ -3,18 +3,18 @@ use Rattle.std.specs.Prelude.{◌≡◌, ℕ, ◌+◌, ◌-◌, ◌^◌, ◌≤�
 use Rattle.std.specs.declared.option.Option.{Option}
 use Rattle.std.specs.declared.result.Result.{Result}
 
--- The count rose, or it stands at the greatest `u64`, where it can't rise.
+-- The count rose, or it is the greatest `u64`, at which it saturates.
 abbrev pub Rose : ℕ → ℕ → Type 0
 Rose before now = min (before + 1) (2 ^ 64 - 1) ≤ now
 
--- The count never falls, and it rose where the call failed.
+-- The count is monotone, and it rose where the call failed.
 pub record HasCause {T E : Type 0} (before now : ℕ) (result : Result T E) : Type 0 where
-  pub later : before ≤ now
+  pub monotone : before ≤ now
   pub failed : OnErr result (Rose before now)
 
--- The count never falls, and it rose where the call answered this error.
+-- The count is monotone, and it rose where the call answered this error.
 pub record HasCauseAt {T E : Type 0} (before now : ℕ) (result : Result T E) (error : E) : Type 0 where
-  pub later : before ≤ now
+  pub monotone : before ≤ now
   pub failed : result ≡ Err error → Rose before now
 
 -- An end tells its bytes after the call exactly where it did before.

@@ -39,7 +39,7 @@ pub fn read_all<S: Source>(
         → taken_len (S.left source.old) (S.left source.new) ≤ limit }
 
     ensures fault { IsErrOf result ReadError.Failed → Rose (S.faults source.old) (S.faults source.new) }
-    ensures later { S.faults source.old ≤ S.faults source.new }
+    ensures monotone { S.faults source.old ≤ S.faults source.new }
     ensures front { TakesFront (S.left source.old) (S.left source.new) }
     ensures tells { TellsAsBefore (S.left source.old) (S.left source.new) }
 {

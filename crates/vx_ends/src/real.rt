@@ -56,7 +56,7 @@ impl<R: Read> Source for StdinSource<R> {
     }
 }
 
-/// A writer of the system, as standard output, with a count of its errors and of the writes that took nothing
+/// A writer of the system, as standard output, with a count of its errors and of the writes that took no byte
 /// of a piece. Contracts see it as that count.
 #[derive(Drop)]
 pub struct StdoutSink<W: Write> {

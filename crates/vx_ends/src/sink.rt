@@ -19,11 +19,11 @@ pub trait Sink {
     /// The bytes held, where the sink tells them.
     ghost held: { Self → Option (List ℕ) };
 
-    /// How many writes have failed. The count stands still at `u64::MAX`.
+    /// How many writes have failed. The count saturates at `u64::MAX`.
     ghost faults: { Self → ℕ };
 
     /// Appends the first bytes of the piece, at least one of a piece that is not empty, and answers how many.
-    /// A write that fails appends nothing.
+    /// A write that fails appends no byte.
     fn write(&mut self, piece: &[u8]) -> Result<usize, SinkError>
         ensures bound { WritesAtMost result piece.now }
         ensures moves { IfOk result (λ n. 0 < length piece.now → 0 < n) }

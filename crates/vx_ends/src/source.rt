@@ -14,11 +14,11 @@ pub trait Source {
     /// The bytes left, where the source tells them.
     ghost left: { Self → Option (List ℕ) };
 
-    /// How many reads have failed. The count stands still at `u64::MAX`.
+    /// How many reads have failed. The count saturates at `u64::MAX`.
     ghost faults: { Self → ℕ };
 
     /// Takes the next bytes into the front of `buf`, and answers how many. 0 for a buffer with room means the
-    /// end. A read that fails takes nothing.
+    /// end. A read that fails takes no byte.
     fn read(&mut self, buf: &mut [u8]) -> Result<usize, Failed>
         ensures bound { ReadsAtMost result buf.new }
         ensures bytes { ReadConsumes (left self.old) (left self.new) result buf.new }

@@ -49,7 +49,7 @@ impl Source for SureSource {
     }
 }
 
-/// A sink in memory that fails only for want of memory. Contracts see it as the bytes held.
+/// A sink in memory that fails only where memory runs out. Contracts see it as the bytes held.
 #[derive(Debug, Drop)]
 pub struct SureSink {
     bytes: Vec<u8>,
@@ -64,7 +64,7 @@ impl Model for SureSink {
 }
 
 impl SureSink {
-    /// A sink that holds nothing.
+    /// A sink that holds no byte.
     pub fn new(alloc: Global) -> Self
         ensures held { result ≡ [] }
     {

@@ -11,7 +11,7 @@ pub fn write_all<K: Sink>(sink: &mut K, text: &[u8]) -> Result<(), SinkError>
     ensures ok { OnOk result (Appends (K.held sink.old) (K.held sink.new) text.now) }
     ensures front { AppendsFront (K.held sink.old) (K.held sink.new) text.now }
     ensures fault { IsErrOf result SinkError.Failed → Rose (K.faults sink.old) (K.faults sink.new) }
-    ensures later { K.faults sink.old ≤ K.faults sink.new }
+    ensures monotone { K.faults sink.old ≤ K.faults sink.new }
     ensures tells { TellsAsBefore (K.held sink.old) (K.held sink.new) }
 {
     let mut at = 0;
