@@ -1,11 +1,12 @@
 #!/usr/bin/env python3
-"""Writes the tables of metadata bytes that vx_wire is tested against, as `protoc --encode` gives them.
+"""Writes the cases of metadata bytes that vx_wire is tested on: messages as `protoc --encode` gives them, and behind them
+those of by_hand.txt, of which the last one is wrong on purpose.
 
-It wants Debian's protobuf-compiler and nothing else. A seed fixes the messages, so each run writes the same files:
+It wants Debian's protobuf-compiler and nothing else. A seed fixes the messages, so each run writes the same file:
 
     python3 tools/wire_vectors/make.py
 
-With --check it writes nothing, and ends with 1 where a file differs from what it would write.
+With --check it writes nothing, and ends with 1 where the file differs from what it would write.
 """
 
 import pathlib
@@ -14,7 +15,7 @@ import subprocess
 import sys
 
 HERE = pathlib.Path(__file__).resolve().parent
-SOURCE = HERE.parent.parent / "crates" / "vx_wire" / "src"
+CASES = HERE.parent.parent / "crates" / "vx_wire_cases" / "stdin"
 SEED = 20261201
 PATCHES = 260
 LANES = 80
@@ -24,6 +25,7 @@ U32 = 2**32 - 1
 # Numbers about the places where a varint takes one byte more, and the greatest.
 LONG = [0, 1, 127, 128, 300, 16383, 16384, 2**21, 2**28 - 1, 2**32 - 1, 2**32, 2**56, 2**63 - 1, 2**63, U64 - 1, U64]
 SHORT = [0, 1, 2, 32, 64, 127, 128, 1023, 16384, 2**21 - 1, 2**28, 2**31 - 1, 2**31, U32]
+INTEGERS = ["U8", "U16", "U32", "U64", "I8", "I16", "I32", "I64"]
 TYPES = [0, 1, 2, 3, 4, 5, 6, 7, 8, 10, 11, 127, 128, 2**31 - 1, -1, -2, -128, -(2**31)]
 
 
@@ -83,41 +85,81 @@ def different(messages, count):
             return found
 
 
-def line(message, name):
-    """The fields in decimal, `-` where absent, and then the bytes in hex."""
-    fields = ["-" if value is None else str(value) for value in message.values()]
-    return " ".join(fields + [f"{byte:02x}" for byte in protoc(name, message)])
+def hex_of(message, name):
+    """The bytes that protoc gives, in hex."""
+    return " ".join(f"{byte:02x}" for byte in protoc(name, message))
 
 
-def table(constant, about, lines):
-    return (
-        "//! Made by tools/wire_vectors/make.py from what protoc encodes. Not written by hand.\n\n"
-        f"/// {about}\npub(crate) const {constant}: &str = \"\\\n" + "\n".join(lines) + "\";\n"
+def type_word(number, unsigned_alone=False):
+    """What a number of a type is read as: a type of integers, or what is wrong with it."""
+    if number is None:
+        return "-"
+    if number in range(4, 8) and unsigned_alone:
+        return f"NotUnsigned {{ number: {number} }}"
+    if number in range(8):
+        return INTEGERS[number]
+    if number in range(8, 11):
+        return f"FloatType {{ number: {number} }}"
+    return f"UnknownType {{ number: {number} }}"
+
+
+def patches_words(message):
+    """The fields as they are read, `-` where absent."""
+    words = {name: "-" if value is None else str(value) for name, value in message.items()}
+    words["indices_ptype"] = type_word(message["indices_ptype"], unsigned_alone=True)
+    words["chunk_offsets_ptype"] = type_word(message["chunk_offsets_ptype"])
+    return " ".join(words.values())
+
+
+def block(*lines):
+    return "\n".join(lines) + "\n"
+
+
+def patches_case(number, message):
+    """What the bytes are read as, and that they are written again."""
+    found = hex_of(message, "PatchesMetadata")
+    asked = f" {found}".rstrip()
+    return block(
+        f"patches as protoc writes them, {number}",
+        f"read patches{asked}",
+        f"rewrite patches{asked}",
+        f"= {patches_words(message)}",
+        f"= {found or 'no bytes'}",
     )
 
 
-def patches_table(random_source):
-    lines = [line(message, "PatchesMetadata") for message in different(patches_messages(random_source), PATCHES)]
-    about = "Length, offset, number of the type of indices, the three optional fields or `-`, and the bytes."
-    return table("PATCHES", about, lines)
+def lanes_case(number, message):
+    """What the bytes are read as, and that the message is written to them."""
+    found = hex_of(message, "PatchedMetadata")
+    asked = f" {found}".rstrip()
+    words = " ".join(map(str, message.values()))
+    return block(
+        f"lanes as protoc writes them, {number}",
+        f"read lanes{asked}",
+        f"write lanes {words}",
+        f"= {words}",
+        f"= {found or 'no bytes'}",
+    )
 
 
-def lanes_table(random_source):
-    lines = [line(message, "PatchedMetadata") for message in different(lanes_messages(random_source), LANES)]
-    return table("LANES", "The number of patches and of lanes, the offset, and the bytes.", lines)
+def cases():
+    random_source = random.Random(SEED)
+    yield block(
+        "# Metadata bytes. How a case is written is said in src/main.rt and in vx_cases. Made by tools/wire_vectors/make.py",
+        "# from what protoc encodes and from by_hand.txt beside it.",
+    )
+    for number, message in enumerate(different(patches_messages(random_source), PATCHES)):
+        yield patches_case(number, message)
+    for number, message in enumerate(different(lanes_messages(random_source), LANES)):
+        yield lanes_case(number, message)
+    yield (HERE / "by_hand.txt").read_text()
 
 
 def main():
-    random_source = random.Random(SEED)
-    files = {
-        SOURCE / "patches" / "vectors.rt": patches_table(random_source),
-        SOURCE / "patched" / "vectors.rt": lanes_table(random_source),
-    }
+    text = "\n".join(cases())
     if "--check" in sys.argv[1:]:
-        return int(any(path.read_text() != text for path, text in files.items()))
-    for path, text in files.items():
-        path.parent.mkdir(exist_ok=True)
-        path.write_text(text)
+        return int(CASES.read_text() != text)
+    CASES.write_text(text)
     return 0
 
 

@@ -26,7 +26,7 @@ type_of_number (pos n) =
     else if n == 4 then Ok I8 else if n == 5 then Ok I16 else if n == 6 then Ok I32 else if n == 7 then Ok I64
     else if nat_le n 10 then Err (FloatType (pos n)) else Err (UnknownType (pos n))
 
--- the type, without nothing among its rows
+-- the type, of which no row is null
 abbrev pub plain_dtype : PType → DType
 plain_dtype ptype = Primitive ptype NonNullable
 

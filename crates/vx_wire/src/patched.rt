@@ -60,8 +60,3 @@ impl PatchedMetadata {
         })
     }
 }
-
-#[cfg(test)]
-mod tests;
-#[cfg(test)]
-mod vectors;

@@ -179,8 +179,3 @@ impl PatchesMetadata {
         })
     }
 }
-
-#[cfg(test)]
-mod tests;
-#[cfg(test)]
-mod vectors;
