@@ -119,7 +119,7 @@ increasing_slice xs p q h r k l =
     let same : p + (k + 1) ≡ p + k + 1 = omega arith in
     omega (arith, get_or-slice xs p q k 0 (omega arith), get_or-slice xs p q (k + 1) 0 inside, r (p + k) (omega arith), ap (λ n. get_or xs n 0) same)
 
--- the count in a part: the count in the whole, held between the part's ends
+-- the count in a part: the count in the whole, which saturates at the part's ends
 pub count-slice : (v : ℕ) (xs : List ℕ) → IsStrictlyIncreasing xs → (p q : ℕ) → p ≤ q → q ≤ length xs → count_below v (slice_range xs p q) ≡ min (count_below v xs - p) (q - p)
 count-slice v xs r p q h l =
     let whole = Rising-from_increasing xs r in

@@ -181,8 +181,8 @@ first_above t rs v start end i fits unsigned b f inside =
       | inr less ↦ let same : i ≡ end = omega (arith, f.1) in let high : v < get_or (numbers_of rs) end 0 = b.high (omega arith) in omega (arith, ap (λ (n : ℕ). get_or (numbers_of rs) n 0) same, high)
     ]
 
-pub increasing_falls_not : (xs : List ℕ) → IsStrictlyIncreasing xs → IsNonDecreasing xs
-increasing_falls_not xs r i j d h l = omega (arith, get_or_default xs i d 0 (omega arith), get_or_default xs j d 0 l, rise-le xs r i j h l)
+pub increasing_is_monotone : (xs : List ℕ) → IsStrictlyIncreasing xs → IsNonDecreasing xs
+increasing_is_monotone xs r i j d h l = omega (arith, get_or_default xs i d 0 (omega arith), get_or_default xs j d 0 l, rise-le xs r i j h l)
 
 -- one read more stays within the bound
 pub rounds_more : (n : ℕ) → 0 < n → rounds n + 1 ≤ search_bound n
@@ -267,7 +267,7 @@ module _ (column reader : Flat) (same : column ≡ reader) (v : ℕ) where
       IsNonDecreasingBy (λ (x : Option ℤ). ordering_index (int_cmp (or_zero x) (pos v))) (map row_int reader.rows)
   searchable_seen fits unsigned r =
       subst (λ (c : Flat). IsNonDecreasingBy (λ (x : Option ℤ). ordering_index (int_cmp (or_zero x) (pos v))) (map row_int c.rows)) same
-      (places_searchable column.dtype column.rows v fits unsigned (increasing_falls_not (numbers_of column.rows) r))
+      (places_searchable column.dtype column.rows v fits unsigned (increasing_is_monotone (numbers_of column.rows) r))
 
   abbrev Stops : Flat → ℕ → ℕ → ℕ → Type 0
   Stops c start end i = IsFirstFrom (standing (λ (x : Option ℤ) (w : ℕ). int_cmp (or_zero x) (pos w)) (map row_int c.rows) v) start end i

@@ -17,7 +17,7 @@ too_long len offset = nat_le 18446744073709551616 (offset + len)
 abbrev pub no_exceptions : Flat → Bool
 no_exceptions indices = nat_eq (length indices.rows) 0
 
--- not of an unsigned type without nothings
+-- not of an unsigned type without nulls
 abbrev pub wrong_type : Flat → Bool
 wrong_type column = not (is_unsigned column.dtype)
 
@@ -77,6 +77,6 @@ index_fault len offset indices offsets = first_broken (index_rules len offset in
 abbrev pub patches_fault : ℕ → ℕ → Flat → Flat → Option Flat → Option Rule
 patches_fault len offset indices values offsets = first_broken (index_rules len offset indices ++ (value_rules indices values ++ chunk_rules len offset indices offsets))
 
--- places as they are made, of which nothing is cut away
+-- places as they are made: no exception is cut away
 abbrev pub made : ℕ → ℕ → Flat → Option Flat → Index
 made len offset indices offsets = record { len = len; offset = offset; indices = indices; chunk_offsets = offsets; within = 0 }

@@ -36,7 +36,8 @@ abbrev pub chunks_over : ℕ → ℕ
 chunks_over n = (n + 1023) / 1024
 
 -- the chunk offsets of the indices of `len` rows from `offset` on, where w exceptions of the first chunk are cut away:
--- less the first entry and w, and held between 0 and the number of indices, entry i is the count of the indices before chunk i
+-- less the first entry and w, which saturates at 0 and at the number of indices, entry i is the count of the indices before
+-- chunk i
 pub record HaveChunkOffsets (len offset : ℕ) (indices offsets : List ℕ) (w : ℕ) : Type 0 where
   pub number : length offsets ≡ chunks_over (offset % 1024 + len)
   pub rise : IsNonDecreasing offsets

@@ -21,10 +21,19 @@ use vx_search::SearchResult;
 
 /// Exceptions to the rows of a column: a row number and a value each, by rising row. They mean their list of pairs and the
 /// number of rows.
-#[derive(Drop)]
 pub struct Patches {
     index: PatchIndex,
     values: FlatColumn,
+}
+
+// Written out, as that of places.
+impl Drop for Patches {
+    fn drop(self) {
+        let Patches {
+            index: _,
+            values: _,
+        } = self;
+    }
 }
 
 impl Model for Patches {
@@ -111,7 +120,8 @@ impl Patches {
     pub fn into_indices(self) -> FlatColumn
         ensures { result ≡ self.index.indices }
     {
-        self.index.into_indices()
+        let Patches { index, values: _ } = self;
+        index.into_indices()
     }
 
     /// The values, in the order of the rows.
@@ -164,7 +174,8 @@ impl Patches {
         Ok(offsets.number_at(idx, steps))
     }
 
-    /// The place of a row among those with an exception: found, or where it belongs. Any row number may be asked for.
+    /// The place of a row among those with an exception: found, or where it belongs. Any row number may be asked for. With
+    /// chunk offsets it counts 25 at most.
     pub fn search_index<L: Ledger>(&self, index: usize, steps: &mut Steps<L>) -> SearchResult
         ensures place { result ≡ place_among (firsts (pairs_of self.now)) index }
         ensures rise { steps.new ≤ steps.old + (offset_reads self.now.index.chunk_offsets + comparisons self.now.index.chunk_offsets (length (indices_of self.now.index))) }
@@ -173,7 +184,7 @@ impl Patches {
         self.index.search_index(index, steps)
     }
 
-    /// The exception at a row: None where there is none. A value that is nothing is an exception too. Takes memory only
+    /// The exception at a row: None where there is none. A value that is null is an exception too. Takes memory only
     /// where the row does.
     pub fn get_patched<L: Ledger>(
         &self,

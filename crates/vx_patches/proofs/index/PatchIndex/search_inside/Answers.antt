@@ -4,7 +4,7 @@ use Rattle.vx_patches.specs.Search.{place_among}
 use Rattle.vx_patches.specs.Views.{index_of}
 use Rattle.vx_patches.proofs.Searches.{place_rows}
 use Rattle.vx_patches.proofs.Counts.{above_first}
-use Rattle.vx_patches.proofs.index.PatchIndex.search_index.Goals as goal
+use Rattle.vx_patches.proofs.index.PatchIndex.search_inside.Goals as goal
 
 pub returns-clause-place : goal.returns-clause-place
 returns-clause-place g c =
