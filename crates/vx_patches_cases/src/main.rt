@@ -12,6 +12,7 @@
 
 mod patches;
 mod places;
+mod text;
 
 use crate::patches::patches_of;
 use crate::places::places_of;

@@ -7,6 +7,7 @@
 //!   row with one;
 //! - `["entry",at]`: a chunk offset;
 //! - `["into_indices"]`, `["into_values"]`: how many there are of those, taken out.
+use crate::text::{number_text, place_text};
 use serde_json::Value;
 use std::alloc::{AllocError, Global};
 use std::io;
@@ -43,15 +44,26 @@ fn exception_text(alloc: Global, exception: &Option<Row>) -> Result<String, Allo
     }
 }
 
-fn parts_text(patches: &Patches, alloc: Global) -> Result<String, AllocError> {
-    format!(in alloc;
+/// The exception of a row as text.
+fn exception_at<L: Ledger>(
+    patches: &Patches,
+    alloc: Global,
+    row: usize,
+    steps: &mut Steps<L>,
+) -> Res<String> {
+    let exception = patches.get_patched(alloc, row, steps)?;
+    Ok(exception_text(alloc, &exception)?)
+}
+
+fn parts_text(patches: &Patches, alloc: Global) -> Res<String> {
+    Ok(format!(in alloc;
         "indices {} of {:?}, values {}, chunk offsets {}, nested {}",
         patches.indices().len(),
         patches.indices_ptype(),
         patches.values().len(),
         patches.chunk_offsets().is_some(),
         patches.dtype().is_nested()
-    )
+    )?)
 }
 
 /// The same rows and values without chunk offsets, to be taken apart.
@@ -102,29 +114,17 @@ impl Asked for AskedPatches {
         steps: &mut Steps<L>,
     ) -> Res<String> {
         let patches = &self.patches;
-        Ok(match call.name {
-            "shape" => self.shape(alloc)?,
-            "parts" => parts_text(patches, alloc)?,
-            "search" => {
-                let place = patches.search_index(call.number(1), steps);
-                format!(in alloc; "{place}")?
-            }
-            "get" => {
-                let exception = patches.get_patched(alloc, call.number(1), steps)?;
-                exception_text(alloc, &exception)?
-            }
-            "min" => format!(in alloc; "{}", patches.min_index(steps))?,
-            "max" => format!(in alloc; "{}", patches.max_index(steps))?,
-            "entry" => {
-                let entry = patches.chunk_offset_at(call.number(1), steps)?;
-                format!(in alloc; "{entry}")?
-            }
-            "into_indices" => format!(in alloc;
-                "{}",
-                shared(patches, alloc)?.into_indices().len()
-            )?,
-            "into_values" => format!(in alloc; "{}", shared(patches, alloc)?.into_values().len())?,
-            _ => String::from_str(alloc, "no call of exceptions")?,
-        })
+        match call.name {
+            "shape" => Ok(self.shape(alloc)?),
+            "parts" => parts_text(patches, alloc),
+            "search" => place_text(alloc, patches.search_index(call.number(1), steps)),
+            "get" => exception_at(patches, alloc, call.number(1), steps),
+            "min" => number_text(alloc, patches.min_index(steps)),
+            "max" => number_text(alloc, patches.max_index(steps)),
+            "entry" => number_text(alloc, patches.chunk_offset_at(call.number(1), steps)?),
+            "into_indices" => number_text(alloc, shared(patches, alloc)?.into_indices().len()),
+            "into_values" => number_text(alloc, shared(patches, alloc)?.into_values().len()),
+            _ => Ok(String::from_str(alloc, "no call of exceptions")?),
+        }
     }
 }

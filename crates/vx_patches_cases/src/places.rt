@@ -6,6 +6,7 @@
 //! - `["search",row]`, `["near",row]`: the place of a row, and from and to which place the exceptions of its chunk stand;
 //! - `["places",start,end]`: which exceptions a slice keeps;
 //! - `["search_cost"]`, `["cut_cost"]`: what a search and a cut end of a slice count at most.
+use crate::text::place_text;
 use serde_json::Value;
 use std::alloc::{AllocError, Global};
 use std::io;
@@ -33,17 +34,42 @@ fn asked(made: Res<PatchIndex>) -> Res<AskedPlaces> {
     Ok(AskedPlaces { places: made? })
 }
 
+fn parts_text(places: &PatchIndex, alloc: Global) -> Res<String> {
+    Ok(format!(in alloc;
+        "indices {}, chunk offsets {}",
+        places.indices().len(),
+        places.chunk_offsets().is_some()
+    )?)
+}
+
 fn near_text<L: Ledger>(
     places: &PatchIndex,
     alloc: Global,
     row: usize,
     steps: &mut Steps<L>,
-) -> Result<String, AllocError> {
+) -> Res<String> {
     if row >= places.array_len() {
-        return String::from_str(alloc, "not allowed");
+        return Ok(String::from_str(alloc, "not allowed")?);
     }
     let near = places.places_near(row, steps);
-    format!(in alloc; "{near:?}")
+    Ok(format!(in alloc; "{near:?}")?)
+}
+
+/// Which exceptions a slice keeps, as text.
+fn kept_text<L: Ledger>(
+    places: &PatchIndex,
+    alloc: Global,
+    call: &Call<'_>,
+    steps: &mut Steps<L>,
+) -> Res<String> {
+    match places.slice(call.number(1)..call.number(2), steps)? {
+        Some((_, kept)) => Ok(format!(in alloc; "{kept:?}")?),
+        None => Ok(String::from_str(alloc, "none")?),
+    }
+}
+
+fn cost_text(alloc: Global, cost: u64) -> Res<String> {
+    Ok(format!(in alloc; "{cost}")?)
 }
 
 /// The places with the chunk offsets of a call; None where the call gives none that can be read.
@@ -104,25 +130,15 @@ impl Asked for AskedPlaces {
         steps: &mut Steps<L>,
     ) -> Res<String> {
         let places = &self.places;
-        Ok(match call.name {
-            "shape" => self.shape(alloc)?,
-            "parts" => format!(in alloc;
-                "indices {}, chunk offsets {}",
-                places.indices().len(),
-                places.chunk_offsets().is_some()
-            )?,
-            "search" => {
-                let place = places.search_index(call.number(1), steps);
-                format!(in alloc; "{place}")?
-            }
-            "near" => near_text(places, alloc, call.number(1), steps)?,
-            "places" => match places.slice(call.number(1)..call.number(2), steps)? {
-                Some((_, kept)) => format!(in alloc; "{kept:?}")?,
-                None => String::from_str(alloc, "none")?,
-            },
-            "search_cost" => format!(in alloc; "{}", places.search_cost())?,
-            "cut_cost" => format!(in alloc; "{}", places.cut_cost())?,
-            _ => String::from_str(alloc, "no call of places")?,
-        })
+        match call.name {
+            "shape" => Ok(self.shape(alloc)?),
+            "parts" => parts_text(places, alloc),
+            "search" => place_text(alloc, places.search_index(call.number(1), steps)),
+            "near" => near_text(places, alloc, call.number(1), steps),
+            "places" => kept_text(places, alloc, call, steps),
+            "search_cost" => cost_text(alloc, places.search_cost()),
+            "cut_cost" => cost_text(alloc, places.cut_cost()),
+            _ => Ok(String::from_str(alloc, "no call of places")?),
+        }
     }
 }
