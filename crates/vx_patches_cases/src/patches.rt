@@ -80,6 +80,26 @@ fn shared(patches: &Patches, alloc: Global) -> Res<Patches> {
     )
 }
 
+fn indices_text(patches: &Patches, alloc: Global) -> Res<String> {
+    let indices = shared(patches, alloc)?.into_indices();
+    number_text(alloc, indices.len())
+}
+
+fn values_text(patches: &Patches, alloc: Global) -> Res<String> {
+    let values = shared(patches, alloc)?.into_values();
+    number_text(alloc, values.len())
+}
+
+fn entry_text<L: Ledger>(
+    patches: &Patches,
+    alloc: Global,
+    at: usize,
+    steps: &mut Steps<L>,
+) -> Res<String> {
+    let entry = patches.chunk_offset_at(at, steps)?;
+    number_text(alloc, entry)
+}
+
 impl Asked for AskedPatches {
     fn shape(&self, alloc: Global) -> Result<String, AllocError> {
         format!(in alloc;
@@ -121,9 +141,9 @@ impl Asked for AskedPatches {
             "get" => exception_at(patches, alloc, call.number(1), steps),
             "min" => number_text(alloc, patches.min_index(steps)),
             "max" => number_text(alloc, patches.max_index(steps)),
-            "entry" => number_text(alloc, patches.chunk_offset_at(call.number(1), steps)?),
-            "into_indices" => number_text(alloc, shared(patches, alloc)?.into_indices().len()),
-            "into_values" => number_text(alloc, shared(patches, alloc)?.into_values().len()),
+            "entry" => entry_text(patches, alloc, call.number(1), steps),
+            "into_indices" => indices_text(patches, alloc),
+            "into_values" => values_text(patches, alloc),
             _ => Ok(String::from_str(alloc, "no call of exceptions")?),
         }
     }
