@@ -31,23 +31,23 @@ under_at l n from (r ∷ rs) (suc i) =
 pub overlaid_length : (l : Layout) (rows : List (Option Value)) → length (overlaid l rows) ≡ length rows
 overlaid_length l rows = under_length l (exceptions l) 0 rows
 
--- each row under its exception, also past the end, where both are nothing
+-- each row under its exception, also past the end, where both are null
 pub overlaid_row : (l : Layout) (rows : List (Option Value)) (i : ℕ) → get_or (overlaid l rows) i None ≡ row_under l (exceptions l) i (get_or rows i None)
 overlaid_row l rows i =
     let here : 0 + i ≡ i = omega arith in
     under_at l (exceptions l) 0 rows i ∙ ap (λ p. row_under l (exceptions l) p (get_or rows i None)) here
 
-under_nothing : (l : Layout) (n row : ℕ) (o : Option Value) → o ≡ None → row_under l n row o ≡ None
+under_null : (l : Layout) (n row : ℕ) (o : Option Value) → o ≡ None → row_under l n row o ≡ None
 unfolding row_under
-under_nothing l n row o e = ap (row_under l n row) e
+under_null l n row o e = ap (row_under l n row) e
 
 under_value : (l : Layout) (row : ℕ) (o : Option Value) (v : Value) (k : Option ℕ) → o ≡ Some v → exception_of l row ≡ k → row_under l (exceptions l) row o ≡ value_under l k v
 unfolding row_under
 under_value l row o v k e f = ap (row_under l (exceptions l) row) e ∙ ap (λ p. value_under l p v) f
 
--- nothing stays nothing
+-- null stays null
 pub overlaid_nothing : (l : Layout) (rows : List (Option Value)) (i : ℕ) → get_or rows i None ≡ None → get_or (overlaid l rows) i None ≡ None
-overlaid_nothing l rows i e = overlaid_row l rows i ∙ under_nothing l (exceptions l) i (get_or rows i None) e
+overlaid_nothing l rows i e = overlaid_row l rows i ∙ under_null l (exceptions l) i (get_or rows i None) e
 
 -- a value with no exception stays
 pub overlaid_kept : (l : Layout) (rows : List (Option Value)) (i : ℕ) (v : Value) → get_or rows i None ≡ Some v → exception_of l i ≡ None → get_or (overlaid l rows) i None ≡ Some v

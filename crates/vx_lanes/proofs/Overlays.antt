@@ -93,13 +93,13 @@ laid_here l k place row x o e p =
     let test : eqb (l.offset + row) place ≡ true = grind (arith, nat_tests) in
     sym (ap (λ b. cond b (value_of l k) (Some x)) test) ∙ ap (laid l k place row) (sym e)
 
-nothing_laid : (l : Layout) (k place row : ℕ) → None ≡ laid l k place row None
+null_laid : (l : Layout) (k place row : ℕ) → None ≡ laid l k place row None
 unfolding laid
-nothing_laid l k place row = refl
+null_laid l k place row = refl
 
 at_place : (l : Layout) (g k row : ℕ) (o : Option Value) → IsLayout l → row < l.len → g < entries l → Belongs l g k → laid l k (stands_at l g k) row (row_under l k row o) ≡ row_under l (k + 1) row o
 unfolding row_under
-at_place l g k row None s h u b = sym (nothing_laid l k (stands_at l g k) row)
+at_place l g k row None s h u b = sym (null_laid l k (stands_at l g k) row)
 at_place l g k row (Some x) s h u b =
     elim (cases_eq (l.offset + row) (stands_at l g k)) as (λ _. laid l k (stands_at l g k) row (value_under l (exception_below l k row) x) ≡ value_under l (exception_below l (k + 1) row) x) [
       | inl same ↦
@@ -245,8 +245,8 @@ unfolding laid
 laid_none l k place row None e = refl
 laid_none l k place row (Some y) e = absurd cc
 
-pub laid_nothing : (l : Layout) (k place at : ℕ) (rows : List (Option Value)) → l.offset + at ≡ place → is_some (get_or rows at None) ≡ false → (row : ℕ) → get_or rows row None ≡ laid l k place row (get_or rows row None)
-laid_nothing l k place at rows h o row =
+pub laid_null : (l : Layout) (k place at : ℕ) (rows : List (Option Value)) → l.offset + at ≡ place → is_some (get_or rows at None) ≡ false → (row : ℕ) → get_or rows row None ≡ laid l k place row (get_or rows row None)
+laid_null l k place at rows h o row =
     elim (cases_eq row at) as (λ _. get_or rows row None ≡ laid l k place row (get_or rows row None)) [
       | inl same ↦ laid_none l k place row (get_or rows row None) (ap (λ r. is_some (get_or rows r None)) same ∙ o)
       | inr apart ↦ laid_out l k place row (get_or rows row None) (λ p. apart (omega arith))

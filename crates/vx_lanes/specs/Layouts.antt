@@ -24,7 +24,7 @@ abbrev pub layer_is_u16 : {A B : Type 0} → DType-F A B → Bool
 layer_is_u16 (DType-F.Primitive U16 NonNullable) = true
 layer_is_u16 t = false
 
--- the types of lane offsets and of indices: nothing is no row
+-- the types of lane offsets and of indices: null is no row
 abbrev pub is_u32 : DType → Bool
 is_u32 t = layer_is_u32 (out-DType t)
 
@@ -129,13 +129,13 @@ abbrev pub value_under : Layout → Option ℕ → Value → Option Value
 value_under l None v = Some v
 value_under l (Some k) v = value_of l k
 
--- a row, or where it is a value what takes its place: nothing stays nothing
+-- a row, or where it is a value what takes its place: null stays null
 abbrev pub replaced : Option Value → Option (Option Value) → Option Value
 replaced None new = None
 replaced (Some v) None = Some v
 replaced (Some v) (Some new) = new
 
--- a row under the first n exceptions: nothing stays nothing
+-- a row under the first n exceptions: null stays null
 unfoldable pub row_under : Layout → ℕ → ℕ → Option Value → Option Value
 row_under l n row None = None
 row_under l n row (Some v) = value_under l (exception_below l n row) v

@@ -14,9 +14,15 @@ use std::ops::Range;
 use vx_base::{ColumnError, DType, FlatColumn, Ledger, Path, Res, Row, Steps, Value};
 
 /// Exceptions over rows, lane by lane: a layout that breaks no rule. Contracts see its parts.
-#[derive(Drop)]
 pub struct Lanes {
     parts: Layout,
+}
+
+// Written out, as for a layout: letting one go is one call.
+impl Drop for Lanes {
+    fn drop(self) {
+        let Lanes { parts: _ } = self;
+    }
 }
 
 impl Model for Lanes {
@@ -176,13 +182,7 @@ impl Lanes {
         ensures means { IfOk result (λ part. (row : ℕ) → row < range.end - range.start → exception_of part row ≡ exception_of self.now (range.start + row)) }
         ensures err { IsOkUnless result ColumnError.OutOfMemory }
     {
-        let n_lanes = self.n_lanes();
-        let row = self.place_at(range.start);
-        let offset = row % CHUNK;
-        let len = range.end - range.start;
-        let from = row / CHUNK * n_lanes;
-        let count = n_lanes * chunk_count(offset + len) + 1;
-        self.part(len, offset, from, from + count)
+        self.rows_between(range.start, range.end)
     }
 
     /// The layout of these chunks, and the rows that they cover. Copies no row.
@@ -205,7 +205,7 @@ impl Lanes {
         Ok((lanes, start..end))
     }
 
-    /// Replaces each row that is a value and has an exception. Nothing stays nothing.
+    /// Replaces each row that is a value and has an exception. A null stays null.
     pub fn overlay<L: Ledger>(&self, rows: &mut [Row], steps: &mut Steps<L>)
         requires { length rows.old ≡ self.now.len }
         ensures rows { rows.new ≡ overlaid self.now rows.old }
@@ -341,6 +341,23 @@ impl Lanes {
         self.parts.index_at(exception, steps)
     }
 
+    /// The layout of the rows from `start` to below `end`.
+    fn rows_between(&self, start: usize, end: usize) -> Res<Lanes>
+        requires ordered { start ≤ end }
+        requires inside { end ≤ self.now.len }
+        ensures ok { IfOk result (λ part. part ≡ layout_slice self.now start end) }
+        ensures means { IfOk result (λ part. (row : ℕ) → row < end - start → exception_of part row ≡ exception_of self.now (start + row)) }
+        ensures err { IsOkUnless result ColumnError.OutOfMemory }
+    {
+        let n_lanes = self.n_lanes();
+        let row = self.place_at(start);
+        let offset = row % CHUNK;
+        let len = end - start;
+        let from = row / CHUNK * n_lanes;
+        let count = n_lanes * chunk_count(offset + len) + 1;
+        self.part(len, offset, from, from + count)
+    }
+
     /// So many rows from a place of a chunk on, with the lane offsets from `from` to below `to`.
     fn part(&self, len: usize, offset: usize, from: usize, to: usize) -> Res<Lanes>
         requires ordered { from ≤ to }
@@ -372,7 +389,7 @@ impl Lanes {
     }
 }
 
-/// Whether the row isn't nothing.
+/// Whether the row isn't null.
 fn is_value(row: &Row) -> bool
     ensures { result ≡ is_some row.now }
 {

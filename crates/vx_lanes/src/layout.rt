@@ -15,7 +15,6 @@ pub const CHUNK: usize = 1024;
 const LANE_EXPONENTS: u32 = 8;
 
 /// The parts of a layout, not checked. The rows stand in chunks of 1024, from place `offset` of the first chunk on.
-#[derive(Drop)]
 pub struct Layout {
     /// How many rows there are.
     pub len: usize,
@@ -29,6 +28,21 @@ pub struct Layout {
     pub patch_indices: FlatColumn,
     /// The value of each exception.
     pub patch_values: FlatColumn,
+}
+
+// Written out, so that letting a layout go is one call: what is derived is written at each way out of each function that
+// holds one, column by column.
+impl Drop for Layout {
+    fn drop(self) {
+        let Layout {
+            len: _,
+            n_lanes: _,
+            offset: _,
+            lane_offsets: _,
+            patch_indices: _,
+            patch_values: _,
+        } = self;
+    }
 }
 
 /// Which rules the indices that were read break, and the index that was read last.

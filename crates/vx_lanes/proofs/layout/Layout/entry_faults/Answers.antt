@@ -1,4 +1,4 @@
-use Rattle.std.proofs.Common.{◌≡◌, ℕ, ◌+◌, ◌-◌, ◌<◌, ◌≤◌, ◌||◌, arith, sym, ap, ◌∙◌}
+use Rattle.std.proofs.Common.{◌≡◌, ℕ, ◌+◌, ◌-◌, ◌<◌, ◌≤◌, ◌||◌, arith, ap, ◌∙◌, subst}
 use Rattle.vx_lanes.specs.Layouts.{index_of}
 use Rattle.vx_lanes.specs.Rules.{any_between, over_range, off_lane, off_order}
 use Rattle.vx_lanes.proofs.Firsts.{or_between_none, or_between_more, order_same}
@@ -30,10 +30,16 @@ loop-exception-preserved g c = record {
 }
 
 pub returns-clause-range : goal.returns-clause-range
-returns-clause-range g c = let end : c.loop-exception.exception ≡ c.args.to = omega arith in c.loop-exception.invariant.range ∙ ap (λ n. c.args.before.range || any_between (over_range c.args.self.now) c.args.from n) end
+returns-clause-range g c =
+    let end : c.loop-exception.exception ≡ c.args.to = omega arith in
+    subst (λ (at : ℕ). c.loop-exception.faults.range ≡ (c.args.before.range || any_between (over_range c.args.self.now) c.args.from at)) end c.loop-exception.invariant.range
 
 pub returns-clause-lane : goal.returns-clause-lane
-returns-clause-lane g c = let end : c.loop-exception.exception ≡ c.args.to = omega arith in c.loop-exception.invariant.lane ∙ ap (λ n. c.args.before.lane || any_between (off_lane c.args.self.now c.args.lane) c.args.from n) end
+returns-clause-lane g c =
+    let end : c.loop-exception.exception ≡ c.args.to = omega arith in
+    subst (λ (at : ℕ). c.loop-exception.faults.lane ≡ (c.args.before.lane || any_between (off_lane c.args.self.now c.args.lane) c.args.from at)) end c.loop-exception.invariant.lane
 
 pub returns-clause-order : goal.returns-clause-order
-returns-clause-order g c = let end : c.loop-exception.exception ≡ c.args.to = omega arith in c.loop-exception.invariant.order ∙ ap (λ n. c.args.before.order || any_between (off_order c.args.self.now c.args.from) c.args.from n) end
+returns-clause-order g c =
+    let end : c.loop-exception.exception ≡ c.args.to = omega arith in
+    subst (λ (at : ℕ). c.loop-exception.faults.order ≡ (c.args.before.order || any_between (off_order c.args.self.now c.args.from) c.args.from at)) end c.loop-exception.invariant.order
