@@ -9,7 +9,7 @@ use Rattle.vx_base.specs.Rules.{first_broken}
 
 -- ---- each rule: true where it is broken
 
--- not both are of an unsigned type without nothings
+-- not both are of an unsigned type without nulls
 abbrev pub wrong_type : Flat → Flat → Bool
 wrong_type arrays rows = not (is_unsigned arrays.dtype && is_unsigned rows.dtype)
 

@@ -7,7 +7,7 @@ ghost use Rattle.vx_interleave.specs.Rules as rules;
 use vx_base::checks::{all_within, selectors_within};
 use vx_base::{FlatColumn, Rule};
 
-/// Whether both selectors are unsigned numbers without nothings.
+/// Whether both selectors are unsigned numbers without nulls.
 fn are_numbers(array_indices: &FlatColumn, row_indices: &FlatColumn) -> bool
     ensures { result ≡ (spec.is_unsigned array_indices.now.dtype && spec.is_unsigned row_indices.now.dtype) }
 {

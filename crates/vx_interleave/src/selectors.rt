@@ -13,10 +13,20 @@ use vx_base::{ColumnError, FlatColumn, Ledger, Path, Res, Steps};
 
 /// For each row the number of a value, and the number of a row in it. Row `i` of a column that is interleaved of several
 /// is row `row_indices[i]` of value `array_indices[i]`.
-#[derive(Drop)]
 pub struct Selectors {
     array_indices: FlatColumn,
     row_indices: FlatColumn,
+}
+
+// Written out, so that letting selectors go is one call: what is derived is written at each way out of each function that
+// holds some, column by column.
+impl Drop for Selectors {
+    fn drop(self) {
+        let Selectors {
+            array_indices: _,
+            row_indices: _,
+        } = self;
+    }
 }
 
 impl Model for Selectors {
