@@ -6,9 +6,9 @@ use Rattle.std.proofs.lemmas.Slice.Zip.{get_or-zip}
 use Rattle.vx_base.proofs.CheckLemmas.{length_numbers}
 use Rattle.vx_rows.specs.declared.dtype.DType.{DType}
 use Rattle.vx_interleave.specs.Selections.{Selection, IsSelection, arrays_of, rows_of as row_numbers, pairs_of, len_of as count_of, array_of, row_of, window_of}
-use Rattle.vx_interleave.proofs.Columns.{pairs_window, window_within, window_sound, window_whole, length_pairs, array_within, row_within}
+use Rattle.vx_interleave.proofs.Columns.{pairs_window, window_within, window_sound, length_pairs, array_within, row_within}
 use Rattle.vx_chunks.specs.Bounds.{total}
-use Rattle.vx_column.specs.Columns.{all_true, rows_of, len_of, point_cost, lane_cost, is_plain, IsSound, IsSliceOf, IsWhole}
+use Rattle.vx_column.specs.Columns.{all_true, rows_of, len_of, point_cost, lane_cost, is_plain, IsSound, IsSliceOf}
 use Rattle.vx_job.specs.Rows.{Rows, interleaved, greatest}
 use Rattle.vx_column.specs.declared.interleave.Interleave.{Interleave}
 use Rattle.vx_column.specs.declared.column.Column.{Column}
@@ -51,21 +51,6 @@ cut_interleaved i j start end s et es ev =
       lanes = omega (arith, lane_interleave j, lane_interleave i, ap (λ (xs : List Column). total (map lane_cost xs)) ev);
       plain = λ all. plain_interleave j ∙ ap (λ (xs : List Column). all_true (map is_plain xs)) ev ∙ sym (plain_interleave i) ∙ all;
     }
-
-abbrev interleaved_by : DType → Selection → List Column → Interleave Column
-interleaved_by t s values = record { dtype = t; selectors = s; values = values }
-
--- a window over all rows is the column
-pub whole_interleaved : (i j : Interleave Column) (start end : ℕ) → IsSound (column.Interleave i) → j.dtype ≡ i.dtype → j.selectors ≡ window_of i.selectors start end → j.values ≡ i.values →
-    IsWhole (column.Interleave i) start end → column.Interleave j ≡ column.Interleave i
-whole_interleaved i j start end s et es ev whole =
-    let here = interleaved_here i s in
-    let all : window_of i.selectors start end ≡ i.selectors =
-    ap (λ n. window_of i.selectors n end) whole.0 ∙ ap (λ n. window_of i.selectors 0 n) (whole.1 ∙ len_interleaved i here.sound) ∙ window_whole i.selectors here.sound in
-    ap column.Interleave (made j et (es ∙ all) ev)
-  where
-    made : (j : Interleave Column) → j.dtype ≡ i.dtype → j.selectors ≡ i.selectors → j.values ≡ i.values → j ≡ i
-    made j et es ev = ap (λ t. interleaved_by t j.selectors j.values) et ∙ ap (λ s. interleaved_by i.dtype s j.values) es ∙ ap (λ v. interleaved_by i.dtype i.selectors v) ev
 
 -- a value that is named is there
 pub value_named : (i : Interleave Column) (at : ℕ) → IsSound (column.Interleave i) → at < len_of (column.Interleave i) →

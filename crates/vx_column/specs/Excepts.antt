@@ -6,7 +6,7 @@ use Rattle.vx_patches.specs.Slices.{rows_inside, IsSliceOf as IsPlaceSlice}
 use Rattle.vx_column.specs.declared.excepted.Excepted.{Excepted}
 use Rattle.vx_column.specs.declared.column.Column.{Column}
 use Rattle.vx_column.specs.declared.column.Column.TheVariants as column
-use Rattle.vx_column.specs.Columns.{rows_of, len_of}
+use Rattle.vx_column.specs.Columns.{rows_of, len_of, IsSound}
 
 -- row `at` is the values' row at this place, or the base's own
 abbrev pub StandsAt : Excepted Column → ℕ → Option ℕ → Type 0
@@ -18,3 +18,12 @@ abbrev pub IsKeptOf : Excepted Column → ℕ → ℕ → Option (Index × Range
 IsKeptOf e start end None = rows_inside start end (places_of e.index) ≡ []
 IsKeptOf e start end (Some kept) =
     IsPlaceSlice e.index kept.0 start end kept.1.start kept.1.end × (kept.1.start ≤ kept.1.end) × (kept.1.end ≤ len_of e.values)
+
+-- the column is exceptions of these parts
+pub record IsExceptedOf (base : Column) (index : Index) (values whole : Column) : Type 0 where
+  pub array : Excepted Column
+  pub is : whole ≡ column.Excepted array
+  pub base_is : array.base ≡ base
+  pub index_is : array.index ≡ index
+  pub values_is : array.values ≡ values
+  pub sound : IsSound whole

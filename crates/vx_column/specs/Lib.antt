@@ -3,3 +3,4 @@ pub mod Chunks
 pub mod Causes
 pub mod Excepts
 pub mod Probes
+pub mod LanesOver

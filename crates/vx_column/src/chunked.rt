@@ -11,7 +11,7 @@ ghost use Rattle.vx_chunks.specs.Causes.{SumCause};
 ghost use Rattle.vx_chunks.specs.Offsets.{offsets_of};
 ghost use Rattle.vx_chunks.specs.Plans.{IsPlanOf};
 ghost use Rattle.vx_column.specs.Columns.{rows_of, len_of, type_of, IsOf, IsSound, point_cost, cut_cost, select_bound};
-ghost use Rattle.vx_column.specs.Columns.{IsSliceOf, IsWhole, ChunksCause, chunks_of, declared_type, last_piece};
+ghost use Rattle.vx_column.specs.Columns.{IsSliceOf, ChunksCause, chunks_of, declared_type, last_piece};
 ghost use Rattle.vx_column.specs.Chunks.{IsMadeOf, FirstChunkCause, IsReduced, filled};
 ghost use Rattle.vx_column.specs.declared.column.Column.TheVariants.{Chunked as chunked_column};
 
@@ -291,8 +291,6 @@ impl Chunked<Column> {
         requires ordered { start ≤ end }
         requires inside { end ≤ len_of (chunked_column self.now) }
         ensures ok { IfOk result (λ part. IsSliceOf (chunked_column self.now) part start end) }
-        ensures same { IfOk result (λ part.
-            IsWhole (chunked_column self.now) start end → part ≡ chunked_column self.now) }
         ensures err { IsOkUnless result ColumnError.OutOfMemory }
         ensures rise { steps.new ≤ steps.old
             + ends_cut start end (len_of (chunked_column self.now)) * cut_cost (chunked_column self.now) }

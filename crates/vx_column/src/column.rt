@@ -1,6 +1,6 @@
 //! Columns: rows of a type, flat or assembled of other columns.
-ghost use Rattle.std.specs.Prelude.{◌≡◌, ◌+◌, ◌-◌, ◌*◌, ◌^◌, ◌<◌, ◌≤◌, ◌++◌, min, get_or, None, is_some};
-ghost use Rattle.std.specs.Prelude.{IfOk, OnOk, OnErr, IfErr, IsOk, IsFalse, IsOkUnless};
+ghost use Rattle.std.specs.Prelude.{◌≡◌, ◌+◌, ◌-◌, ◌*◌, ◌^◌, ◌<◌, ◌≤◌, ◌↔◌, ◌++◌, min, get_or, None, is_some};
+ghost use Rattle.std.specs.Prelude.{IfOk, OnOk, OnErr, IfErr, IsOk, IsTrue, IsFalse, IsOkUnless};
 ghost use Rattle.vx_rows.specs.Sizes.{type_takes_memory};
 ghost use Rattle.vx_base.specs.Ranges.{ends_cut, SliceCause};
 ghost use Rattle.vx_column.specs.Columns.{rows_of, len_of, type_of, id_of, IsSound, IsSliceOf, IsWhole, point_cost, cut_cost, select_bound};
@@ -135,7 +135,14 @@ impl Column {
         self.cut(alloc, start, end, steps)
     }
 
-    /// Rows `start` to below `end`, which stand in the column.
+    fn is_whole(&self, start: usize, end: usize) -> bool
+        requires { IsSound self.now }
+        ensures { IsTrue result ↔ IsWhole self.now start end }
+    {
+        start == 0 && end == self.len()
+    }
+
+    /// Rows `start` to below `end`, which stand in the column. A full range gives the same column.
     #[cycle(cut)]
     pub(crate) fn cut<L: Ledger>(
         &self,
@@ -153,6 +160,9 @@ impl Column {
         ensures rise { steps.new ≤ steps.old + ends_cut start end (len_of self.now) * cut_cost self.now }
         ensures monotone { steps.old ≤ steps.new }
     {
+        if self.is_whole(start, end) {
+            return self.share(alloc);
+        }
         match self {
             Column::Flat(rows) => {
                 let rows = rows.window(start..end)?;

@@ -10,9 +10,9 @@ ghost use Rattle.vx_patches.specs.Places.{indices_of, IsIndex};
 ghost use Rattle.vx_patches.specs.Search.{search_cost};
 ghost use Rattle.vx_patches.specs.Slices.{cut_cost as places_cut_cost};
 ghost use Rattle.vx_job.specs.Kinds.{is_bool_or_integer, is_nullable, AreExceptionKinds};
-ghost use Rattle.vx_column.specs.Excepts.{StandsAt, IsKeptOf};
+ghost use Rattle.vx_column.specs.Excepts.{StandsAt, IsKeptOf, IsExceptedOf};
 ghost use Rattle.vx_job.specs.Faults.{IsExceptionsFault, MadeCause};
-ghost use Rattle.vx_column.specs.Columns.{IsSound, IsSliceOf, IsWhole, type_of, rows_of, len_of, point_cost, cut_cost, base_of, values_of, index_of, slots_in};
+ghost use Rattle.vx_column.specs.Columns.{IsSound, IsSliceOf, type_of, rows_of, len_of, point_cost, cut_cost, base_of, values_of, index_of, slots_in};
 ghost use Rattle.vx_column.specs.declared.column.Column.TheVariants.{Excepted as excepted_column, Flat as flat_column};
 
 use crate::column::Column;
@@ -98,6 +98,18 @@ impl Excepted<Column> {
             values,
             slots,
         })
+    }
+
+    /// The same, as a column.
+    fn column_of(alloc: Global, base: Column, index: PatchIndex, values: Column) -> Res<Column>
+        requires base { IsSound base }
+        requires values { IsSound values }
+        requires kinds { AreExceptionKinds index (type_of base) (len_of base) (type_of values) (len_of values) }
+        ensures ok { IfOk result (IsExceptedOf base index values) }
+        ensures err { IsOkUnless result ColumnError.OutOfMemory }
+    {
+        let array = Excepted::of(alloc, base, index, values)?;
+        Ok(Column::Excepted(array))
     }
 
     /// Another handle on the same parts.
@@ -215,17 +227,11 @@ impl Excepted<Column> {
         requires ordered { start ≤ end }
         requires inside { end ≤ len_of (excepted_column self.now) }
         ensures ok { IfOk result (λ part. IsSliceOf (excepted_column self.now) part start end) }
-        ensures same { IfOk result (λ part.
-            IsWhole (excepted_column self.now) start end → part ≡ excepted_column self.now) }
         ensures err { IsOkUnless result ColumnError.OutOfMemory }
         ensures rise { steps.new ≤ steps.old
             + ends_cut start end (len_of (excepted_column self.now)) * cut_cost (excepted_column self.now) }
         ensures monotone { steps.old ≤ steps.new }
     {
-        if self.is_whole(start, end) {
-            let same = self.share()?;
-            return Ok(Column::Excepted(same));
-        }
         let kept = self.kept(start, end, steps)?;
         let base = self.base().cut(alloc, start, end, steps)?;
         let Some((index, places)) = kept else {
@@ -233,15 +239,7 @@ impl Excepted<Column> {
         };
         let values = self.values();
         let values = values.cut(alloc, places.start, places.end, steps)?;
-        let array = Excepted::of(alloc, base, index, values)?;
-        Ok(Column::Excepted(array))
-    }
-
-    fn is_whole(&self, start: usize, end: usize) -> bool
-        requires { IsSound (excepted_column self.now) }
-        ensures { IsTrue result ↔ IsWhole (excepted_column self.now) start end }
-    {
-        start == 0 && end == self.index().array_len()
+        Excepted::column_of(alloc, base, index, values)
     }
 
     /// The exceptions of rows `start` to below `end`, and their places among all.

@@ -5,7 +5,7 @@ ghost use Rattle.vx_rows.specs.Sizes.{type_takes_memory};
 ghost use Rattle.vx_interleave.specs.Selections.{selection};
 ghost use Rattle.vx_job.specs.Kinds.{AreInterleaveKinds};
 ghost use Rattle.vx_job.specs.Faults.{IsInterleaveFault, MadeCause};
-ghost use Rattle.vx_column.specs.Columns.{IsSound, IsSliceOf, IsWhole, type_of, rows_of, len_of, point_cost, interleaved_of, selectors_of};
+ghost use Rattle.vx_column.specs.Columns.{IsSound, IsSliceOf, type_of, rows_of, len_of, point_cost, interleaved_of, selectors_of};
 ghost use Rattle.vx_column.specs.declared.column.Column.TheVariants.{Interleave as interleave_column};
 
 use crate::column::Column;
@@ -184,8 +184,6 @@ impl Interleave<Column> {
         requires ordered { start ≤ end }
         requires inside { end ≤ len_of (interleave_column self.now) }
         ensures ok { IfOk result (λ part. IsSliceOf (interleave_column self.now) part start end) }
-        ensures same { IfOk result (λ part.
-            IsWhole (interleave_column self.now) start end → part ≡ interleave_column self.now) }
         ensures err { IsOkUnless result ColumnError.OutOfMemory }
     {
         let dtype = self.dtype.copy()?;

@@ -6,8 +6,9 @@ ghost use Rattle.vx_base.specs.Ranges.{ends_cut};
 ghost use Rattle.vx_lanes.specs.Layouts.{IsLayout, layout, chunks_of, lane_start};
 ghost use Rattle.vx_job.specs.Kinds.{AreLaneKinds};
 ghost use Rattle.vx_job.specs.Faults.{IsLanesFault, MadeCause};
-ghost use Rattle.vx_column.specs.Columns.{IsSound, IsSliceOf, IsWhole, type_of, rows_of, len_of, point_cost, cut_cost};
+ghost use Rattle.vx_column.specs.Columns.{IsSound, IsSliceOf, type_of, rows_of, len_of, point_cost, cut_cost};
 ghost use Rattle.vx_column.specs.Columns.{inner_of, lanes_of, first_covered, end_covered, select_bound};
+ghost use Rattle.vx_column.specs.LanesOver.{IsPatchedOf};
 ghost use Rattle.vx_job.specs.Rows.{lane_reads};
 ghost use Rattle.vx_column.specs.declared.column.Column.TheVariants.{Patched as patched_column};
 
@@ -86,6 +87,17 @@ impl Patched<Column> {
     {
         let inner = Shared::new(alloc, inner)?;
         Ok(Patched { inner, lanes })
+    }
+
+    /// The same, as a column.
+    fn column_of(alloc: Global, inner: Column, lanes: Lanes) -> Res<Column>
+        requires inner { IsSound inner }
+        requires kinds { AreLaneKinds lanes (type_of inner) (len_of inner) }
+        ensures ok { IfOk result (IsPatchedOf inner lanes) }
+        ensures err { IsOkUnless result ColumnError.OutOfMemory }
+    {
+        let array = Patched::of(alloc, inner, lanes)?;
+        Ok(Column::Patched(array))
     }
 
     /// Another handle on the same parts.
@@ -215,28 +227,14 @@ impl Patched<Column> {
         requires ordered { start ≤ end }
         requires inside { end ≤ len_of (patched_column self.now) }
         ensures ok { IfOk result (λ part. IsSliceOf (patched_column self.now) part start end) }
-        ensures same { IfOk result (λ part.
-            IsWhole (patched_column self.now) start end → part ≡ patched_column self.now) }
         ensures err { IsOkUnless result ColumnError.OutOfMemory }
         ensures rise { steps.new ≤ steps.old
             + ends_cut start end (len_of (patched_column self.now)) * cut_cost (patched_column self.now) }
         ensures monotone { steps.old ≤ steps.new }
     {
-        if self.is_whole(start, end) {
-            let same = self.share()?;
-            return Ok(Column::Patched(same));
-        }
         let lanes = self.lanes().slice(start..end)?;
         let inner = self.inner().cut(alloc, start, end, steps)?;
-        let array = Patched::of(alloc, inner, lanes)?;
-        Ok(Column::Patched(array))
-    }
-
-    fn is_whole(&self, start: usize, end: usize) -> bool
-        requires { IsSound (patched_column self.now) }
-        ensures { IsTrue result ↔ IsWhole (patched_column self.now) start end }
-    {
-        start == 0 && end == self.lanes().len()
+        Patched::column_of(alloc, inner, lanes)
     }
 
     /// Row `at`: the inner row is read first, and a null stays null.

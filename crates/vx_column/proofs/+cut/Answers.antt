@@ -1,17 +1,19 @@
 use Rattle.std.proofs.Common.{refl, ◌≡◌, ◌+◌, ◌-◌, ◌*◌, ◌<◌, ◌≤◌, List, length, subst, ap, ◌∙◌, arith}
 use Rattle.std.proofs.lemmas.List.Elements.{All-take, All-drop}
 use Rattle.std.proofs.lemmas.List.{length-map}
+use Rattle.std.proofs.lemmas.Bool.{false≢true}
 use Rattle.std.proofs.lemmas.Result.{IfOk-weaker}
 use Rattle.std.specs.List.{slice_range}
 use Rattle.vx_base.specs.Ranges.{ends_cut}
 use Rattle.vx_column.specs.Columns.{len_of, IsSound, cut_cost, IsSliceOf, IsOf, IsWhole}
 use Rattle.vx_column.specs.declared.column.Column.{Column}
 use Rattle.vx_column.specs.declared.column.Column.TheVariants as column
-use Rattle.vx_column.proofs.Cuts.{cut_one, cut_many, fits_many, same_at, held_at, all_round, rise_inside, rise_front, rise_across, rise_plan, flat_slice, flat_same, whole_slice, not_whole, total_is}
+use Rattle.vx_column.proofs.Cuts.{cut_one, cut_many, fits_many, same_at, held_at, all_round, rise_inside, rise_front, rise_across, rise_plan, flat_slice, whole_slice, total_is}
 use Rattle.std.proofs.Common.{sym}
 use Rattle.vx_lanes.specs.Layouts.{layout_slice}
 use Rattle.vx_lanes.specs.declared.layout.Layout.{Layout}
-use Rattle.vx_column.specs.Excepts.{IsKeptOf}
+use Rattle.vx_column.specs.Excepts.{IsKeptOf, IsExceptedOf}
+use Rattle.vx_column.specs.LanesOver.{IsPatchedOf}
 use Rattle.vx_column.proofs.Layers.{lanes_here}
 use Rattle.vx_column.proofs.Excepts.{cut_kinds, cut_some, cut_none, rise_base, rise_values}
 use Rattle.vx_column.proofs.LaneRows.{IsLaneCut, lanes_slice, layout_long, cut_kinds as lane_kinds, cut_lanes}
@@ -25,11 +27,6 @@ chunked::Chunked+Column::cut-returns-in_ok-share-in-Whole-clause-ok g t c =
 pub chunked::Chunked+Column::cut-returns-in_ok-share-in-Whole-clause-rise : goal.chunked::Chunked+Column::cut-returns-in_ok-share-in-Whole-clause-rise
 chunked::Chunked+Column::cut-returns-in_ok-share-in-Whole-clause-rise g t c =
     rise_plan c.args.self.now c.args.start c.args.end c.args.steps.now c.pieces-plan.new.steps c.pieces-plan.ensures.rise
-
-pub chunked::Chunked+Column::cut-returns-in-Empty-clause-same : goal.chunked::Chunked+Column::cut-returns-in-Empty-clause-same
-chunked::Chunked+Column::cut-returns-in-Empty-clause-same g t c =
-    IfOk-weaker c.none.result _ (λ part. IsWhole (column.Chunked c.args.self.now) c.args.start c.args.end → part ≡ column.Chunked c.args.self.now)
-    (λ part _ whole. absurd (not_whole c.args.self.now c.args.start c.args.end c.in-Empty.ensures.plan.1 whole)) c.none.ensures.ok
 
 pub chunked::Chunked+Column::cut-returns-in-Empty-clause-rise : goal.chunked::Chunked+Column::cut-returns-in-Empty-clause-rise
 chunked::Chunked+Column::cut-returns-in-Empty-clause-rise g t c =
@@ -47,12 +44,6 @@ chunked::Chunked+Column::cut-returns-in-One-clause-ok g t c =
     (λ part slice. cut_one self c.args.start c.args.end at.chunk at.start at.chunk at.end span refl at.ensures.plan.0.0 x at_x
     (held_at (IsOf self.dtype) c.children-chunks.result.now at.chunk x c.children-chunks.ensures.types (omega (arith, span.within, length-map self.chunks len_of, ap length same)) c.index-chunks-chunk.is) part slice)
     c.cut.ensures.ok
-
-pub chunked::Chunked+Column::cut-returns-in-One-clause-same : goal.chunked::Chunked+Column::cut-returns-in-One-clause-same
-chunked::Chunked+Column::cut-returns-in-One-clause-same g t c =
-    let self = c.args.self.now in
-    IfOk-weaker c.cut.result _ (λ part. IsWhole (column.Chunked self) c.args.start c.args.end → part ≡ column.Chunked self)
-    (λ part _ whole. absurd (not_whole self c.args.start c.args.end c.in-One.ensures.plan.0.1 whole)) c.cut.ensures.ok
 
 pub chunked::Chunked+Column::cut-returns-in-One-clause-rise : goal.chunked::Chunked+Column::cut-returns-in-One-clause-rise
 chunked::Chunked+Column::cut-returns-in-One-clause-rise g t c =
@@ -181,22 +172,9 @@ chunked::Chunked+Column::cut-returns-in_ok-array-in-Many-clause-ok g t c =
     cut_many self c.in_ok-array-in-Many.array c.args.start c.args.end at.first at.first_start at.last at.last_end span at.ensures.plan.1 x y m at_x at_y mid kept_front kept_back front c.in_ok-back-in-Many.ensures.ok
     c.in_ok-array-in-Many.ensures.sound c.in_ok-array-in-Many.ensures.chunks.0 c.in_ok-array-in-Many.ensures.chunks.1
 
-pub chunked::Chunked+Column::cut-returns-in_ok-array-in-Many-clause-same : goal.chunked::Chunked+Column::cut-returns-in_ok-array-in-Many-clause-same
-chunked::Chunked+Column::cut-returns-in_ok-array-in-Many-clause-same g t c whole =
-    absurd (not_whole c.args.self.now c.args.start c.args.end c.in-Many.ensures.plan.0.1 whole)
-
 pub column::Column::cut-returns-in_ok-rows-in-Flat-clause-ok : goal.column::Column::cut-returns-in_ok-rows-in-Flat-clause-ok
 column::Column::cut-returns-in_ok-rows-in-Flat-clause-ok g t c =
     flat_slice c.args.self.now c.in-Flat.rows c.in_ok-rows-in-Flat.rows c.args.start c.args.end c.in-Flat.is c.in_ok-rows-in-Flat.ensures.ok c.in_ok-rows-in-Flat.ensures.fits
-
-pub column::Column::cut-returns-in_ok-rows-in-Flat-clause-same : goal.column::Column::cut-returns-in_ok-rows-in-Flat-clause-same
-column::Column::cut-returns-in_ok-rows-in-Flat-clause-same g t c whole =
-    flat_same c.args.self.now c.in-Flat.rows c.in_ok-rows-in-Flat.rows c.args.start c.args.end c.in-Flat.is c.in_ok-rows-in-Flat.ensures.ok whole
-
-pub excepted::Excepted+Column::cut-returns-then-is_whole-clause-ok : goal.excepted::Excepted+Column::cut-returns-then-is_whole-clause-ok
-excepted::Excepted+Column::cut-returns-then-is_whole-clause-ok g t c =
-    let whole = c.is_whole.ensures.0 c.if-is_whole.true in
-    whole_slice (column.Excepted c.args.self.now) _ c.args.start c.args.end (ap column.Excepted c.in_ok-same.ensures.ok) c.requires.sound whole.0 whole.1
 
 pub excepted::Excepted+Column::cut-returns-in_err-base-clause-rise : goal.excepted::Excepted+Column::cut-returns-in_err-base-clause-rise
 excepted::Excepted+Column::cut-returns-in_err-base-clause-rise g t c =
@@ -223,23 +201,14 @@ excepted::Excepted+Column::cut-returns-in_err-values-clause-rise g t c =
     let values = subst (λ (x : Column). c.cut-2.new.steps ≤ c.cut.new.steps + ends_cut places.start places.end (len_of x) * cut_cost x) c.values-values.ensures.value c.cut-2.ensures.rise in
     rise_values self c.in-Some.index c.args.start c.args.end places.start places.end c.requires.sound kept.0 c.args.steps.now c.kept.new.steps c.cut.new.steps c.cut-2.new.steps c.kept.ensures.rise base values
 
-pub excepted::Excepted+Column::cut-of-requires-clause-kinds : goal.excepted::Excepted+Column::cut-of-requires-clause-kinds
-excepted::Excepted+Column::cut-of-requires-clause-kinds g t c =
+pub excepted::Excepted+Column::cut-column_of-requires-clause-kinds : goal.excepted::Excepted+Column::cut-column_of-requires-clause-kinds
+excepted::Excepted+Column::cut-column_of-requires-clause-kinds g t c =
     let self = c.args.self.now in
     let places = c.in-Some.places in
     let kept = subst (IsKeptOf self c.args.start c.args.end) c.in-Some.is c.in_ok-kept.ensures.ok in
     let base = subst (λ (x : Column). IsSliceOf x c.in_ok-base.base c.args.start c.args.end) c.base.ensures.value c.in_ok-base.ensures.ok in
     let values = subst (λ (x : Column). IsSliceOf x c.in_ok-values.values places.start places.end) c.values-values.ensures.value c.in_ok-values.ensures.ok in
     cut_kinds self c.in-Some.index c.args.start c.args.end places.start places.end c.requires.sound c.requires.ordered c.requires.inside kept.0 c.in_ok-base.base c.in_ok-values.values base values
-
-pub excepted::Excepted+Column::cut-returns-in_err-array-clause-rise : goal.excepted::Excepted+Column::cut-returns-in_err-array-clause-rise
-excepted::Excepted+Column::cut-returns-in_err-array-clause-rise g t c =
-    let self = c.args.self.now in
-    let places = c.in-Some.places in
-    let kept = subst (IsKeptOf self c.args.start c.args.end) c.in-Some.is c.in_ok-kept.ensures.ok in
-    let base = subst (λ (x : Column). c.cut.new.steps ≤ c.kept.new.steps + ends_cut c.args.start c.args.end (len_of x) * cut_cost x) c.base.ensures.value c.cut.ensures.rise in
-    let values = subst (λ (x : Column). c.cut-2.new.steps ≤ c.cut.new.steps + ends_cut places.start places.end (len_of x) * cut_cost x) c.values-values.ensures.value c.cut-2.ensures.rise in
-    rise_values self c.in-Some.index c.args.start c.args.end places.start places.end c.requires.sound kept.0 c.args.steps.now c.kept.new.steps c.cut.new.steps c.cut-2.new.steps c.kept.ensures.rise base values
 
 pub excepted::Excepted+Column::cut-returns-clause-ok : goal.excepted::Excepted+Column::cut-returns-clause-ok
 excepted::Excepted+Column::cut-returns-clause-ok g t c =
@@ -248,8 +217,11 @@ excepted::Excepted+Column::cut-returns-clause-ok g t c =
     let kept = subst (IsKeptOf self c.args.start c.args.end) c.in-Some.is c.in_ok-kept.ensures.ok in
     let base = subst (λ (x : Column). IsSliceOf x c.in_ok-base.base c.args.start c.args.end) c.base.ensures.value c.in_ok-base.ensures.ok in
     let values = subst (λ (x : Column). IsSliceOf x c.in_ok-values.values places.start places.end) c.values-values.ensures.value c.in_ok-values.ensures.ok in
-    cut_some self c.in_ok-array.array c.in-Some.index c.args.start c.args.end places.start places.end c.requires.sound c.requires.ordered c.requires.inside kept.0 c.in_ok-base.base c.in_ok-values.values base values
-    c.in_ok-array.ensures.base c.in_ok-array.ensures.index c.in_ok-array.ensures.values c.in_ok-array.ensures.sound
+    IfOk-weaker c.column_of.result (IsExceptedOf c.in_ok-base.base c.in-Some.index c.in_ok-values.values) (λ part. IsSliceOf (column.Excepted self) part c.args.start c.args.end)
+    (λ part made. subst (λ (p : Column). IsSliceOf (column.Excepted self) p c.args.start c.args.end) (sym made.is)
+    (cut_some self made.array c.in-Some.index c.args.start c.args.end places.start places.end c.requires.sound c.requires.ordered c.requires.inside kept.0 c.in_ok-base.base c.in_ok-values.values base values
+    made.base_is made.index_is made.values_is (subst IsSound made.is made.sound)))
+    c.column_of.ensures.ok
 
 pub excepted::Excepted+Column::cut-returns-clause-rise : goal.excepted::Excepted+Column::cut-returns-clause-rise
 excepted::Excepted+Column::cut-returns-clause-rise g t c =
@@ -260,13 +232,8 @@ excepted::Excepted+Column::cut-returns-clause-rise g t c =
     let values = subst (λ (x : Column). c.cut-2.new.steps ≤ c.cut.new.steps + ends_cut places.start places.end (len_of x) * cut_cost x) c.values-values.ensures.value c.cut-2.ensures.rise in
     rise_values self c.in-Some.index c.args.start c.args.end places.start places.end c.requires.sound kept.0 c.args.steps.now c.kept.new.steps c.cut.new.steps c.cut-2.new.steps c.kept.ensures.rise base values
 
-pub patched::Patched+Column::cut-returns-then-is_whole-clause-ok : goal.patched::Patched+Column::cut-returns-then-is_whole-clause-ok
-patched::Patched+Column::cut-returns-then-is_whole-clause-ok g t c =
-    let whole = c.is_whole.ensures.0 c.if-is_whole.true in
-    whole_slice (column.Patched c.args.self.now) _ c.args.start c.args.end (ap column.Patched c.in_ok-same.ensures.ok) c.requires.sound whole.0 whole.1
-
-pub patched::Patched+Column::cut-of-requires-clause-kinds : goal.patched::Patched+Column::cut-of-requires-clause-kinds
-patched::Patched+Column::cut-of-requires-clause-kinds g t c =
+pub patched::Patched+Column::cut-column_of-requires-clause-kinds : goal.patched::Patched+Column::cut-column_of-requires-clause-kinds
+patched::Patched+Column::cut-column_of-requires-clause-kinds g t c =
     let self = c.args.self.now in
     let s = c.args.start in
     let e = c.args.end in
@@ -283,4 +250,40 @@ patched::Patched+Column::cut-returns-clause-ok g t c =
     let made = c.in_ok-lanes.ensures.ok ∙ ap (λ (l : Layout). layout_slice l s e) c.lanes.ensures.value in
     let lanes = subst (λ (l : Layout). IsLaneCut self.lanes l s e) (sym made) (lanes_slice self.lanes s e (lanes_here self c.requires.sound).sound c.requires.ordered (omega (arith, c.requires.inside, layout_long self c.requires.sound))) in
     let inner = subst (λ (x : Column). IsSliceOf x c.in_ok-inner.inner s e) c.inner.ensures.value c.in_ok-inner.ensures.ok in
-    cut_lanes self c.in_ok-array.array c.in_ok-lanes.lanes s e c.requires.sound lanes c.in_ok-inner.inner inner c.in_ok-array.ensures.inner c.in_ok-array.ensures.lanes c.in_ok-array.ensures.sound
+    IfOk-weaker c.column_of.result (IsPatchedOf c.in_ok-inner.inner c.in_ok-lanes.lanes) (λ part. IsSliceOf (column.Patched self) part s e)
+    (λ part made. subst (λ (p : Column). IsSliceOf (column.Patched self) p s e) (sym made.is)
+    (cut_lanes self made.array c.in_ok-lanes.lanes s e c.requires.sound lanes c.in_ok-inner.inner inner made.inner_is made.lanes_is (subst IsSound made.is made.sound)))
+    c.column_of.ensures.ok
+
+pub column::Column::cut-returns-then-is_whole-clause-ok : goal.column::Column::cut-returns-then-is_whole-clause-ok
+column::Column::cut-returns-then-is_whole-clause-ok g t c =
+    let whole = c.is_whole.ensures.0 c.if-is_whole.true in
+    IfOk-weaker c.share.result (λ part. part ≡ c.args.self.now) (λ part. IsSliceOf c.args.self.now part c.args.start c.args.end)
+    (λ part e. whole_slice c.args.self.now part c.args.start c.args.end e c.requires.sound whole.0 whole.1) c.share.ensures.ok
+
+pub column::Column::cut-returns-then-is_whole-clause-same : goal.column::Column::cut-returns-then-is_whole-clause-same
+column::Column::cut-returns-then-is_whole-clause-same g t c =
+    IfOk-weaker c.share.result (λ part. part ≡ c.args.self.now) (λ part. IsWhole c.args.self.now c.args.start c.args.end → part ≡ c.args.self.now) (λ part e _. e) c.share.ensures.ok
+
+pub column::Column::cut-returns-in_ok-rows-in-Flat-clause-same : goal.column::Column::cut-returns-in_ok-rows-in-Flat-clause-same
+column::Column::cut-returns-in_ok-rows-in-Flat-clause-same g t c whole = absurd (false≢true (sym c.if-is_whole.false ∙ c.is_whole.ensures.1 whole))
+
+pub column::Column::cut-returns-in-Chunked-clause-same : goal.column::Column::cut-returns-in-Chunked-clause-same
+column::Column::cut-returns-in-Chunked-clause-same g t c =
+    IfOk-weaker c.cut.result _ (λ part. IsWhole c.args.self.now c.args.start c.args.end → part ≡ c.args.self.now)
+    (λ part _ whole. absurd (false≢true (sym c.if-is_whole.false ∙ c.is_whole.ensures.1 whole))) c.cut.ensures.ok
+
+pub column::Column::cut-returns-in-Patched-clause-same : goal.column::Column::cut-returns-in-Patched-clause-same
+column::Column::cut-returns-in-Patched-clause-same g t c =
+    IfOk-weaker c.cut-in-Patched.result _ (λ part. IsWhole c.args.self.now c.args.start c.args.end → part ≡ c.args.self.now)
+    (λ part _ whole. absurd (false≢true (sym c.if-is_whole.false ∙ c.is_whole.ensures.1 whole))) c.cut-in-Patched.ensures.ok
+
+pub column::Column::cut-returns-in-Excepted-clause-same : goal.column::Column::cut-returns-in-Excepted-clause-same
+column::Column::cut-returns-in-Excepted-clause-same g t c =
+    IfOk-weaker c.cut-in-Excepted.result _ (λ part. IsWhole c.args.self.now c.args.start c.args.end → part ≡ c.args.self.now)
+    (λ part _ whole. absurd (false≢true (sym c.if-is_whole.false ∙ c.is_whole.ensures.1 whole))) c.cut-in-Excepted.ensures.ok
+
+pub column::Column::cut-returns-in-Interleave-clause-same : goal.column::Column::cut-returns-in-Interleave-clause-same
+column::Column::cut-returns-in-Interleave-clause-same g t c =
+    IfOk-weaker c.cut-in-Interleave.result _ (λ part. IsWhole c.args.self.now c.args.start c.args.end → part ≡ c.args.self.now)
+    (λ part _ whole. absurd (false≢true (sym c.if-is_whole.false ∙ c.is_whole.ensures.1 whole))) c.cut-in-Interleave.ensures.ok

@@ -1,6 +1,6 @@
 use Rattle.std.proofs.Common.{arith}
 use Rattle.vx_column.proofs.Layers.{interleaved_here}
-use Rattle.vx_column.proofs.Interleaves.{len_interleaved, cut_interleaved, whole_interleaved}
+use Rattle.vx_column.proofs.Interleaves.{len_interleaved, cut_interleaved}
 use Rattle.vx_column.proofs.interleave.Interleave+Column.cut.Goals as goal
 
 pub window-requires-clause-inside : goal.window-requires-clause-inside
@@ -10,6 +10,3 @@ window-requires-clause-inside c =
 
 pub returns-clause-ok : goal.returns-clause-ok
 returns-clause-ok c = cut_interleaved c.args.self.now _ c.args.start c.args.end c.requires.sound c.in_ok-dtype.ensures.ok c.in_ok-selectors.ensures.ok c.in_ok-values.ensures
-
-pub returns-clause-same : goal.returns-clause-same
-returns-clause-same c whole = whole_interleaved c.args.self.now _ c.args.start c.args.end c.requires.sound c.in_ok-dtype.ensures.ok c.in_ok-selectors.ensures.ok c.in_ok-values.ensures whole
