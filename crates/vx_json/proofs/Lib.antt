@@ -1,5 +1,5 @@
 pub mod Readings
-pub mod Levels
+pub mod Members
 pub mod Numerals
 pub mod Jobs
 pub mod RowLists

@@ -1,4 +1,4 @@
--- Reading forms out of JSON values: what a value of a form is, or nothing.
+-- Reading forms out of JSON values: what a value of a form is, where it is one.
 use Rattle.std.specs.Prelude.{◌≡◌, ℕ, ℤ, ◌==◌, List, [], ◌∷◌, Bool, if◌then◌else◌, Result, Ok, Err, ⊤}
 use Rattle.std.specs.Prelude.{Option, Some, None, is_some, option_map}
 use Rattle.serde_json.specs.Data.{Data, Items, no_items, item, Members}
@@ -43,9 +43,9 @@ whole_of d = as_number d >>= as_u64
 abbrev pub integer_of : Data → Option ℤ
 integer_of d = as_number d >>= as_integer
 
--- `null` is nothing, and any other value is read by f
-abbrev pub or_nothing : {X : Type 0} → (Data → Option X) → Data → Option (Option X)
-or_nothing f d = if is_some (as_null d) then Some None else (f d >>= λ x. Some (Some x))
+-- `null` itself, and any other value is read by f
+abbrev pub null_or : {X : Type 0} → (Data → Option X) → Data → Option (Option X)
+null_or f d = if is_some (as_null d) then Some None else (f d >>= λ x. Some (Some x))
 
 -- each item, read by f
 abbrev pub all_items : {X : Type 0} → (Data → Option X) → Items → Option (List X)

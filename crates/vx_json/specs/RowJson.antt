@@ -14,7 +14,7 @@ use Rattle.vx_rows.specs.declared.value.Value.TheOpen.{Value-F}
 abbrev pub int_json : ℤ → Data
 int_json z = if is_in_range U64 z || is_in_range I64 z then number (of_integer z) else null
 
--- nothing is `null`
+-- a row that is null is `null`
 abbrev pub or_null : Option Data → Data
 or_null None = null
 or_null (Some d) = d

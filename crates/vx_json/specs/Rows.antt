@@ -5,7 +5,7 @@ use Rattle.serde_json.specs.Find.{as_bool, as_str}
 use Rattle.vx_rows.specs.declared.dtype.DType.{DType, out-DType}
 use Rattle.vx_rows.specs.declared.dtype.DType.TheOpen.{DType-F}
 use Rattle.vx_rows.specs.declared.value.Value.{Value, Bool, Int, Decimal, Utf8, Binary}
-use Rattle.vx_json.specs.Forms.{◌>>=◌, integer_of, or_nothing}
+use Rattle.vx_json.specs.Forms.{◌>>=◌, integer_of, null_or}
 use Rattle.vx_json.specs.Texts.{unscaled_of, bytes_of}
 
 -- a text that writes a number, unscaled
@@ -30,6 +30,6 @@ layer_value (DType-F.Struct fs n) d = None
 abbrev pub value_of : DType → Data → Option Value
 value_of t d = layer_value (out-DType t) d
 
--- a row by its type: `null` is nothing, and any other value is of the type's kind
+-- a row by its type: `null`, or a value of the type's kind
 abbrev pub row_of : DType → Data → Option (Option Value)
-row_of t d = or_nothing (value_of t) d
+row_of t d = null_or (value_of t) d

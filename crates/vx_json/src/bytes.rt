@@ -3,9 +3,10 @@ ghost use Rattle.std.specs.Prelude.{IfOk, IsOkUnless, MatchOption};
 ghost use Rattle.vx_job.specs.JobView.{job_view};
 ghost use Rattle.vx_json.specs.Bytes.{IsJobOf, HasNoJob};
 
-use crate::job::{Job, job_of};
+use crate::job::job_of;
 use serde_json::Value;
 use std::alloc::Global;
+use vx_job::Job;
 use vx_rows::{ColumnError, Res};
 
 /// The job that the bytes are, if they are one.

@@ -13,9 +13,6 @@ use std::alloc::Global;
 use vx_job::Job;
 use vx_rows::{ColumnError, Res};
 
-/// How deep parts may nest. JSON texts nest less deep than this.
-const MAX_DEPTH: usize = 128;
-
 #[tactic(auto, unfolding(crate::specs::Job::job_of))]
 fn job_form(alloc: Global, value: &Value) -> Result<Job, Unread>
     ensures { Gives job_view result (job_spec (view value.now)) }
@@ -23,7 +20,7 @@ fn job_form(alloc: Global, value: &Value) -> Result<Job, Unread>
     has_len(value, 2)?;
     let part_items = field(value, "parts")?;
     let step_items = field(value, "plan")?;
-    let parts = parts_of(alloc, part_items, MAX_DEPTH)?;
+    let parts = parts_of(alloc, part_items)?;
     let plan = steps_of(alloc, step_items)?;
     Ok(Job { parts, plan })
 }

@@ -1,7 +1,7 @@
 //! Parts out of JSON.
 ghost use Rattle.std.specs.Prelude.{◌≡◌};
 ghost use Rattle.serde_json.specs.View.{view};
-ghost use Rattle.vx_json.specs.Forms.{Gives, list_of, or_nothing};
+ghost use Rattle.vx_json.specs.Forms.{Gives, list_of, null_or};
 ghost use Rattle.vx_json.specs.Parts as spec;
 
 use crate::forms::{Unread, array_of, field, has_field, has_len, whole_of};
@@ -80,7 +80,7 @@ pub fn flat_of(alloc: Global, value: &Value) -> Result<FlatColumn, Unread>
 
 /// Flat rows, or `null` where there are none.
 fn flat_or_null(alloc: Global, value: &Value) -> Result<Option<FlatColumn>, Unread>
-    ensures { Gives (λ c. c) result (or_nothing spec.flat_form (view value.now)) }
+    ensures { Gives (λ c. c) result (null_or spec.flat_form (view value.now)) }
 {
     if value.is_null() {
         return Ok(None);
@@ -103,40 +103,53 @@ fn constant_of(alloc: Global, value: &Value) -> Result<Part, Unread>
     Ok(Part::Constant { dtype, row, len })
 }
 
+/// The part that the member of this name is.
+#[cycle(parts)]
+fn part_in(alloc: Global, value: &Value, name: &str) -> Result<Part, Unread>
+    ensures { Gives (λ p. p) result (spec.part_under (view value.now) name.now) }
+{
+    let child = field(value, name)?;
+    part_of(alloc, child)
+}
+
+/// The list of parts that the member of this name is.
+#[cycle(parts)]
+fn parts_in(alloc: Global, value: &Value, name: &str) -> Result<Seq<Part>, Unread>
+    ensures { Gives (λ ps. ps) result (spec.parts_under (view value.now) name.now) }
+{
+    let child = field(value, name)?;
+    Ok(Seq::from_vec(parts_of(alloc, child)?))
+}
+
 #[cycle(parts)]
 #[tactic(auto, unfolding(crate::specs::Parts::chunked_form))]
-fn chunked_of(alloc: Global, value: &Value, depth: usize) -> Result<Part, Unread>
-    ensures { Gives (λ p. p) result (spec.chunked_form (spec.part_at depth) (view value.now)) }
+fn chunked_of(alloc: Global, value: &Value) -> Result<Part, Unread>
+    ensures { Gives (λ p. p) result (spec.chunked_form (spec.parts_under (view value.now)) (view value.now)) }
 {
     has_len(value, 2)?;
     let kind = field(value, "chunked")?;
-    let items = field(value, "chunks")?;
     let dtype = type_of(kind)?;
-    let chunks = parts_of(alloc, items, depth)?;
-    Ok(Part::Chunked {
-        dtype,
-        chunks: Seq::from_vec(chunks),
-    })
+    let chunks = parts_in(alloc, value, "chunks")?;
+    Ok(Part::Chunked { dtype, chunks })
 }
 
 #[cycle(parts)]
 #[tactic(auto, unfolding(crate::specs::Parts::lanes_form))]
-fn lanes_of(alloc: Global, value: &Value, depth: usize) -> Result<Part, Unread>
-    ensures { Gives (λ p. p) result (spec.lanes_form (spec.part_at depth) (view value.now)) }
+fn lanes_of(alloc: Global, value: &Value) -> Result<Part, Unread>
+    ensures { Gives (λ p. p) result (spec.lanes_form (spec.part_under (view value.now)) (view value.now)) }
 {
     has_len(value, 6)?;
-    let inner_part = field(value, "lanes")?;
     let lane_count = field(value, "n_lanes")?;
     let shift = field(value, "offset")?;
     let offsets_part = field(value, "lane_offsets")?;
     let indices_part = field(value, "indices")?;
     let values_part = field(value, "values")?;
-    let inner = part_of(alloc, inner_part, depth)?;
     let n_lanes = whole_of(lane_count)?;
     let offset = whole_of(shift)?;
     let lane_offsets = flat_of(alloc, offsets_part)?;
     let indices = flat_of(alloc, indices_part)?;
     let values = flat_of(alloc, values_part)?;
+    let inner = part_in(alloc, value, "lanes")?;
     Ok(Part::Lanes {
         inner: Boxed::new(alloc, inner)?,
         n_lanes,
@@ -149,20 +162,18 @@ fn lanes_of(alloc: Global, value: &Value, depth: usize) -> Result<Part, Unread>
 
 #[cycle(parts)]
 #[tactic(auto, unfolding(crate::specs::Parts::excepted_form))]
-fn excepted_of(alloc: Global, value: &Value, depth: usize) -> Result<Part, Unread>
-    ensures { Gives (λ p. p) result (spec.excepted_form (spec.part_at depth) (view value.now)) }
+fn excepted_of(alloc: Global, value: &Value) -> Result<Part, Unread>
+    ensures { Gives (λ p. p) result (spec.excepted_form (spec.part_under (view value.now)) (view value.now)) }
 {
     has_len(value, 5)?;
-    let base_part = field(value, "excepted")?;
     let shift = field(value, "offset")?;
     let indices_part = field(value, "indices")?;
-    let values_part = field(value, "values")?;
     let offsets_part = field(value, "chunk_offsets")?;
-    let base = part_of(alloc, base_part, depth)?;
     let offset = whole_of(shift)?;
     let indices = flat_of(alloc, indices_part)?;
-    let values = part_of(alloc, values_part, depth)?;
     let chunk_offsets = flat_or_null(alloc, offsets_part)?;
+    let base = part_in(alloc, value, "excepted")?;
+    let values = part_in(alloc, value, "values")?;
     Ok(Part::Excepted {
         base: Boxed::new(alloc, base)?,
         offset,
@@ -174,18 +185,17 @@ fn excepted_of(alloc: Global, value: &Value, depth: usize) -> Result<Part, Unrea
 
 #[cycle(parts)]
 #[tactic(auto, unfolding(crate::specs::Parts::interleaved_form))]
-fn interleaved_of(alloc: Global, value: &Value, depth: usize) -> Result<Part, Unread>
-    ensures { Gives (λ p. p) result (spec.interleaved_form (spec.part_at depth) (view value.now)) }
+fn interleaved_of(alloc: Global, value: &Value) -> Result<Part, Unread>
+    ensures { Gives (λ p. p) result (spec.interleaved_form (spec.parts_under (view value.now)) (view value.now)) }
 {
     has_len(value, 3)?;
-    let items = field(value, "interleaved")?;
     let arrays_part = field(value, "array_indices")?;
     let rows_part = field(value, "row_indices")?;
-    let values = parts_of(alloc, items, depth)?;
     let array_indices = flat_of(alloc, arrays_part)?;
     let row_indices = flat_of(alloc, rows_part)?;
+    let values = parts_in(alloc, value, "interleaved")?;
     Ok(Part::Interleaved {
-        values: Seq::from_vec(values),
+        values,
         array_indices,
         row_indices,
     })
@@ -193,33 +203,30 @@ fn interleaved_of(alloc: Global, value: &Value, depth: usize) -> Result<Part, Un
 
 /// A list of parts.
 #[cycle(parts)]
-pub fn parts_of(alloc: Global, value: &Value, depth: usize) -> Result<Vec<Part>, Unread>
-    ensures { Gives (λ v. v.items) result (list_of (spec.part_at depth) (view value.now)) }
+pub fn parts_of(alloc: Global, value: &Value) -> Result<Vec<Part>, Unread>
+    ensures { Gives (λ v. v.items) result (list_of spec.part_of (view value.now)) }
 {
     let items = array_of(value)?;
     let mut parts = Vec::with_capacity(alloc, items.len())?;
     for item in items {
-        parts.push(part_of(alloc, item, depth)?)?;
+        parts.push(part_of(alloc, item)?)?;
     }
     Ok(parts)
 }
 
-/// A part in which parts nest at most so deep.
+/// A part. Parts nest as deep as the value does.
 #[cycle(parts)]
-#[tactic(auto, using(crate::proofs::Levels::one_level, crate::proofs::Levels::no_level))]
-pub fn part_of(alloc: Global, value: &Value, depth: usize) -> Result<Part, Unread>
-    ensures { Gives (λ p. p) result (spec.part_at depth (view value.now)) }
+#[tactic(auto, using(crate::proofs::Members::one_level))]
+pub fn part_of(alloc: Global, value: &Value) -> Result<Part, Unread>
+    ensures { Gives (λ p. p) result (spec.part_of (view value.now)) }
 {
-    if depth == 0 {
-        return Err(Unread::NoForm);
-    }
     match tag_of(value) {
         None => Err(Unread::NoForm),
         Some(Tag::Flat) => Ok(Part::Flat(flat_of(alloc, value)?)),
         Some(Tag::Constant) => constant_of(alloc, value),
-        Some(Tag::Chunked) => chunked_of(alloc, value, depth - 1),
-        Some(Tag::Lanes) => lanes_of(alloc, value, depth - 1),
-        Some(Tag::Excepted) => excepted_of(alloc, value, depth - 1),
-        Some(Tag::Interleaved) => interleaved_of(alloc, value, depth - 1),
+        Some(Tag::Chunked) => chunked_of(alloc, value),
+        Some(Tag::Lanes) => lanes_of(alloc, value),
+        Some(Tag::Excepted) => excepted_of(alloc, value),
+        Some(Tag::Interleaved) => interleaved_of(alloc, value),
     }
 }

@@ -54,7 +54,7 @@ fn value_of(alloc: Global, dtype: &DType, value: &Json) -> Result<Value, Unread>
     }
 }
 
-/// A row by its type: `null` is nothing, and any other value is of the type's kind. It need not lie within the type.
+/// A row by its type: `null`, or a value of the type's kind. It need not lie within the type.
 pub fn row_of(alloc: Global, dtype: &DType, value: &Json) -> Result<Row, Unread>
     ensures { Gives (λ r. r) result (spec.row_of dtype.now (view value.now)) }
 {
