@@ -7,53 +7,31 @@ use serde_json::{Value, json};
 use std::alloc::{AllocError, Global};
 use vx_rows::{ColumnError, Path, Res, Rule, WireFault};
 
+/// A `match` that gives each variant its name.
+macro_rules! own_names {
+    ($rule:expr; $($name:ident)*) => {
+        match $rule {
+            $(Rule::$name => stringify!($name),)*
+        }
+    };
+}
+
 /// The name of a rule.
 pub fn rule_name(rule: Rule) -> &'static str
     ensures { result.now ≡ spec.rule_name rule }
 {
-    match rule {
-        Rule::RowType => "RowType",
-        Rule::TooLong => "TooLong",
-        Rule::ChunkType => "ChunkType",
-        Rule::LaneCount => "LaneCount",
-        Rule::LaneOffset => "LaneOffset",
-        Rule::LaneOffsetsType => "LaneOffsetsType",
-        Rule::LaneOffsetsLength => "LaneOffsetsLength",
-        Rule::LaneOffsetsFall => "LaneOffsetsFall",
-        Rule::LaneOffsetsEnd => "LaneOffsetsEnd",
-        Rule::LaneIndexType => "LaneIndexType",
-        Rule::LaneLengths => "LaneLengths",
-        Rule::LaneTooMany => "LaneTooMany",
-        Rule::LaneIndexRange => "LaneIndexRange",
-        Rule::LaneIndexLane => "LaneIndexLane",
-        Rule::LaneIndexOrder => "LaneIndexOrder",
-        Rule::LaneValueType => "LaneValueType",
-        Rule::LaneValueNull => "LaneValueNull",
-        Rule::NoExceptions => "NoExceptions",
-        Rule::IndexType => "IndexType",
-        Rule::IndexOrder => "IndexOrder",
-        Rule::IndexBelowOffset => "IndexBelowOffset",
-        Rule::IndexPastEnd => "IndexPastEnd",
-        Rule::ValueCount => "ValueCount",
-        Rule::ValueType => "ValueType",
-        Rule::ValueNullable => "ValueNullable",
-        Rule::ChunkOffsetType => "ChunkOffsetType",
-        Rule::ChunkOffsetCount => "ChunkOffsetCount",
-        Rule::ChunkOffsetWrong => "ChunkOffsetWrong",
-        Rule::TooFewValues => "TooFewValues",
-        Rule::ValueTypes => "ValueTypes",
-        Rule::SelectorType => "SelectorType",
-        Rule::SelectorLengths => "SelectorLengths",
-        Rule::SelectorArray => "SelectorArray",
-        Rule::SelectorRow => "SelectorRow",
-        Rule::BoundaryType => "BoundaryType",
-        Rule::BoundaryCount => "BoundaryCount",
-        Rule::BoundaryStart => "BoundaryStart",
-        Rule::BoundaryFall => "BoundaryFall",
-        Rule::BoundaryEnd => "BoundaryEnd",
-        Rule::BoundaryLength => "BoundaryLength",
-        Rule::InnerLength => "InnerLength",
-    }
+    own_names!(rule;
+        RowType TooLong ChunkType
+        LaneCount LaneOffset LaneOffsetsType LaneOffsetsLength LaneOffsetsFall LaneOffsetsEnd
+        LaneIndexType LaneLengths LaneTooMany LaneIndexRange
+        LaneIndexLane LaneIndexOrder LaneValueType LaneValueNull
+        NoExceptions IndexType IndexOrder IndexBelowOffset IndexPastEnd
+        ValueCount ValueType ValueNullable
+        ChunkOffsetType ChunkOffsetCount ChunkOffsetWrong
+        TooFewValues ValueTypes
+        SelectorType SelectorLengths SelectorArray SelectorRow
+        BoundaryType BoundaryCount BoundaryStart BoundaryFall BoundaryEnd BoundaryLength
+        InnerLength)
 }
 
 fn path_json(alloc: Global, at: &Path) -> Result<Vec<Value>, AllocError>
