@@ -8,9 +8,10 @@ use serde_json::Value;
 use std::io;
 use vx_base::{DType, NoLedger, Res, Steps};
 use vx_column::{ChunkedArray, Column};
-use vx_plan::{Part, open_part};
+use vx_plan::Part;
+use vx_plan::open::open_part;
 
-fn columns_of(rt: &HostRuntime, parts: &[Part]) -> Res<Vec<Column>>
+fn columns_of(rt: &HostRuntime, parts: Vec<Part>) -> Res<Vec<Column>>
     ensures { IfOk result (λ columns. All IsSound columns.items) }
 {
     let mut steps = Steps::new(rt, NoLedger::new());
@@ -22,14 +23,14 @@ fn columns_of(rt: &HostRuntime, parts: &[Part]) -> Res<Vec<Column>>
 }
 
 /// The columns of the parts as chunks of this type.
-fn of_type(rt: &HostRuntime, parts: &[Part], dtype: DType) -> Res<Opened> {
+fn of_type(rt: &HostRuntime, parts: Vec<Part>, dtype: DType) -> Res<Opened> {
     let columns = columns_of(rt, parts)?;
     let array = ChunkedArray::try_new(rt.alloc(), columns, dtype)?;
     Ok(Opened::new(Column::Chunked(array)))
 }
 
 /// The columns of the parts as chunks of the first one's type.
-fn of_first_type(rt: &HostRuntime, parts: &[Part]) -> Res<Opened> {
+fn of_first_type(rt: &HostRuntime, parts: Vec<Part>) -> Res<Opened> {
     let columns = columns_of(rt, parts)?;
     let array = ChunkedArray::try_from_chunks(rt.alloc(), columns)?;
     Ok(Opened::new(Column::Chunked(array)))
@@ -43,7 +44,7 @@ pub(crate) fn chunks_of(
 ) -> io::Result<Res<Opened>> {
     let parts = parts_of(rt.alloc(), parts)?;
     match dtype {
-        Some(dtype) => Ok(of_type(rt, parts.as_slice(), type_of(dtype)?)),
-        None => Ok(of_first_type(rt, parts.as_slice())),
+        Some(dtype) => Ok(of_type(rt, parts, type_of(dtype)?)),
+        None => Ok(of_first_type(rt, parts)),
     }
 }

@@ -13,7 +13,8 @@ use std::marker::Model;
 use vx_base::{Ledger, NoLedger, Res, Steps};
 use vx_cases::{Asked, Call};
 use vx_column::Column;
-use vx_plan::{Part, open_part};
+use vx_plan::Part;
+use vx_plan::open::open_part;
 
 /// A column whose parts fit together, as those of parts do.
 pub(crate) struct Opened {
@@ -51,7 +52,7 @@ impl Opened {
 
 fn open_alone(rt: &HostRuntime, part: Part) -> Res<Opened> {
     let mut steps = Steps::new(rt, NoLedger::new());
-    let column = open_part(rt.alloc(), &part, &mut steps)?;
+    let column = open_part(rt.alloc(), part, &mut steps)?;
     Ok(Opened::new(column))
 }
 
