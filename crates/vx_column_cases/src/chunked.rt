@@ -53,6 +53,17 @@ pub(crate) fn place<L: Ledger>(
     Ok(format!(in alloc; "chunk {chunk}, place {place}")?)
 }
 
+/// How many chunks have rows.
+fn filled(array: &ChunkedArray) -> usize
+    requires { IsSound (chunked_column array.now) }
+{
+    let mut count = 0usize;
+    for _chunk in array.non_empty_chunks() {
+        count = count.saturating_add(1);
+    }
+    count
+}
+
 /// What a call of chunked columns answers.
 pub(crate) fn answer(alloc: Global, array: &ChunkedArray, call: &Call<'_>) -> Res<String>
     requires { IsSound (chunked_column array.now) }
@@ -62,7 +73,7 @@ pub(crate) fn answer(alloc: Global, array: &ChunkedArray, call: &Call<'_>) -> Re
         "iter_chunks" => format!(in alloc; "{}", array.iter_chunks().count())?,
         "array_iterator" => format!(in alloc; "{}", array.array_iterator().count())?,
         "chunks" => format!(in alloc; "{}", array.chunks(alloc)?.len())?,
-        "non_empty_chunks" => format!(in alloc; "{}", array.non_empty_chunks().count())?,
+        "non_empty_chunks" => format!(in alloc; "{}", filled(array))?,
         "offsets" => format!(in alloc; "{:?}", array.chunk_offset_values())?,
         "offset_rows" => format!(in alloc; "{}", array.chunk_offsets_array().len())?,
         _ => String::from_str(alloc, "no call of chunked columns")?,

@@ -118,6 +118,16 @@ pub(crate) fn patched<L: Ledger>(
     })
 }
 
+/// How many rows the value of this number has.
+fn value(alloc: Global, array: &InterleaveArray, at: usize) -> Res<String>
+    requires { IsSound (interleave_column array.now) }
+{
+    if at >= array.num_values() {
+        return Ok(String::from_str(alloc, "not allowed")?);
+    }
+    Ok(format!(in alloc; "rows {}", array.value(at).len())?)
+}
+
 /// What a call of interleaved columns answers.
 pub(crate) fn interleaved(
     alloc: Global,
@@ -133,10 +143,7 @@ pub(crate) fn interleaved(
             array.array_indices().len(),
             array.row_indices().len()
         )?,
-        "value" if call.number(1) < array.num_values() => {
-            format!(in alloc; "rows {}", array.value(call.number(1)).len())?
-        }
-        "value" => String::from_str(alloc, "not allowed")?,
+        "value" => value(alloc, array, call.number(1))?,
         _ => String::from_str(alloc, "no call of interleaved columns")?,
     })
 }
