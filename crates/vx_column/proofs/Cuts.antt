@@ -2,9 +2,7 @@
 use Rattle.std.proofs.lemmas.Bool.{and_parts, and_from}
 use Rattle.std.proofs.lemmas.Bool.Decides.{nat_tests}
 use Rattle.std.proofs.Common.{inl, inr, ◌^◌, Bool, true, false, cond, nat_eq, None, Option, Some, ◌≡◌, ℕ, zero, suc, ◌+◌, ◌-◌, ◌*◌, ◌≤◌, ◌<◌, List, [], ◌∷◌, ◌++◌, take, drop, length, map, get_or, max, refl, sym, ◌∙◌, ap, subst, arith, append_assoc, append-nil, length-append}
-use denote.Param.Weighed.{most, at_most}
-use Rattle.vx_column.proofs.column.Column.TheLaws.{the_size}
-use Rattle.std.proofs.lemmas.List.{take-map, length-map, length-take-le, length-take, get_or-map, get_or-drop, length-drop, take_at, take-take, take_more, take-append-drop, map-append}
+use Rattle.std.proofs.lemmas.List.{take-map, length-map, length-take-le, length-take, get_or-map, get_or-drop, length-drop, take_at, take_more, take-append-drop, map-append}
 use Rattle.std.specs.List.{slice_range}
 use Rattle.std.proofs.Math.Nat.{mul-le-mul, mul-le-mul_left, le_refl}
 use Rattle.std.specs.List.{All, AllByRecursion}
@@ -15,14 +13,14 @@ use Rattle.vx_chunks.specs.Bounds.{total}
 use Rattle.vx_patches.specs.Places.{Index, indices_of}
 use Rattle.vx_patches.specs.Search.{search_cost, offset_reads, comparisons}
 use Rattle.vx_patches.specs.Slices.{front_reads, cut_cost as places_cut_cost}
-use Rattle.vx_chunks.specs.Plans.{IsSpan, IsFull}
+use Rattle.vx_chunks.specs.Plans.{IsSpan}
 use Rattle.vx_chunks.specs.Causes.{SumCause}
 use Rattle.vx_rows.specs.declared.error.ColumnError.{ColumnError}
 use Rattle.vx_rows.specs.declared.error.ColumnError.TheVariants.{OutOfMemory}
 use Rattle.vx_search.proofs.Powers.{search_bound-le}
 use Rattle.vx_base.specs.Column.{Flat, flat, IsFlat}
 use Rattle.vx_rows.specs.declared.dtype.DType.{DType}
-use Rattle.vx_column.specs.Columns.{type_of, rows_of, len_of, point_cost, cut_cost, lane_cost, is_plain, all_true, select_bound, IsSound, IsSliceOf, IsWhole, last_piece}
+use Rattle.vx_column.specs.Columns.{type_of, rows_of, len_of, point_cost, cut_cost, lane_cost, is_plain, all_true, IsSound, IsPlain, IsSliceOf, last_piece}
 use Rattle.vx_job.specs.Rows.{Rows, joined, greatest}
 use Rattle.vx_column.specs.declared.chunked.Chunked.{Chunked}
 use Rattle.vx_column.specs.declared.patched.Patched.{Patched}
@@ -78,6 +76,10 @@ pub plain_at : (xs : List Column) (k : ℕ) (x : Column) → k < length xs → x
 plain_at [] k x h e all = absurd (omega arith)
 plain_at (y ∷ xs) zero x h e all = ap is_plain e ∙ (and_parts (is_plain y) (all_true (map is_plain xs)) all).0
 plain_at (y ∷ xs) (suc k) x h e all = plain_at xs k x (omega arith) e (and_parts (is_plain y) (all_true (map is_plain xs)) all).1
+
+-- a chunk of a plain column is plain
+pub plain_in : (c : Chunked Column) (k : ℕ) (x : Column) → IsPlain (column.Chunked c) → k < length (map len_of c.chunks) → x ≡ get_or c.chunks k x → IsPlain x
+plain_in c k x plain h at = plain_at c.chunks k x (omega (arith, h, length-map c.chunks len_of)) at (sym (plain_chunked c) ∙ plain)
 
 -- a cut inside one chunk
 pub cut_one : (c : Chunked Column) (start end first s last e : ℕ) → IsSpan (map len_of c.chunks) start end first s last e → first ≡ last → start < end →
@@ -302,10 +304,6 @@ pub rise_two : (old m1 m2 new cuts bound cuts1 cost1 cuts2 cost2 greatest' : ℕ
 rise_two old m1 m2 new cuts bound cuts1 cost1 cuts2 cost2 greatest' h1 h2 h3 c n1 n2 =
     omega (arith, mul-le-mul_left cuts1 n1, mul-le-mul_left cuts2 n2, mul-le-mul c (le_refl greatest'))
 
--- the size of a chunk is below that of its column
-pub falls_at : (xs : List Column) (k : ℕ) (x : Column) (t : ℕ) → x ≡ get_or xs k x → k < length xs → 2 * max 0 (max (most the_size xs) 0) + 1 ≡ t → 2 * the_size x + 0 < t
-falls_at xs k x t e h d = omega (arith, d, at_most the_size xs k x h, ap the_size e)
-
 pub same_at : (ys xs : List Column) (k : ℕ) (x : Column) → ys ≡ xs → x ≡ get_or ys k x → x ≡ get_or xs k x
 same_at ys xs k x e at = at ∙ ap (λ (zs : List Column). get_or zs k x) e
 
@@ -373,16 +371,6 @@ whole_slice whole part start end same sound front back = subst (λ p. IsSliceOf 
   plain = λ all. all;
 })
 
--- a range that is no full one of the lengths is no full one of the column
-pub not_whole : (c : Chunked Column) (start end : ℕ) → (IsFull (map len_of c.chunks) start end → ⊥) → IsWhole (column.Chunked c) start end → ⊥
-not_whole c start end part whole = part (whole.0, whole.1 ∙ sym (total_is c))
-
--- a window over all rows is the flat column
-pub flat_same : (self : Column) (all rows : Flat) (start end : ℕ) → self ≡ column.Flat all → rows ≡ flat all.dtype (slice_range all.rows start end) → IsWhole self start end → column.Flat rows ≡ self
-flat_same self all rows start end is cut whole =
-    let long : end ≡ length all.rows = whole.1 ∙ ap len_of is ∙ ap length (rows_flat all) in
-    ap column.Flat (cut ∙ ap (flat all.dtype) (ap (λ n. slice_range all.rows n end) whole.0 ∙ sublist_whole all.rows end long)) ∙ sym is
-
 -- an empty column
 pub empty_slice : (whole : Column) (rows : Flat) (t : DType) (at : ℕ) → rows ≡ flat t [] → IsFlat rows → t ≡ type_of whole → IsSliceOf whole (column.Flat rows) at at
 empty_slice whole rows t at none fits typed = record {
@@ -443,30 +431,12 @@ row_in c k place at x at_x h in_x e =
     ap (λ rows. get_or rows at None) whole ∙ ap (λ n. get_or (rows_in p ++ (rows_of x ++ rows_in q)) n None) index ∙ get_or_after (rows_in p) (rows_of x ++ rows_in q) place None
     ∙ get_or_before (rows_of x) (rows_in q) place None in_x
 
--- the rows of a column that is seen to be flat
-pub flat_seen : (self : Column) (c : Flat) (n : ℕ) → self ≡ column.Flat c → n ≡ length c.rows → slice_range c.rows 0 n ≡ rows_of self
-flat_seen self c n is e = sublist_whole c.rows n e ∙ sym (rows_flat c) ∙ ap rows_of (sym is)
-
--- what stood before a list that only grew still stands
-pub still_before : {A : Type 0} (old more mid new : List A) → mid ≡ old ++ more → take (length mid) new ≡ mid → take (length old) new ≡ old
-still_before old more mid new e h =
-    let shorter : length old ≤ length mid = omega (arith, ap length e, length-append old more) in
-    sym (take-take (length old) (length mid) new shorter) ∙ ap (take (length old)) (h ∙ e) ∙ take_at old more (length old) refl
-
 pub rows_more : (xs : List Column) (k : ℕ) (x : Column) → k < length xs → x ≡ get_or xs k x → rows_in (take (k + 1) xs) ≡ rows_in (take k xs) ++ rows_of x
 rows_more xs k x h e =
     ap rows_in (take_more xs k x h ∙ ap (λ y. take k xs ++ y ∷ []) (sym e)) ∙ rows-append (take k xs) (x ∷ []) ∙ ap (λ r. rows_in (take k xs) ++ r) (append-nil (rows_of x))
 
 pub rows_part : (xs : List Column) (k : ℕ) → length (rows_in (take k xs)) ≤ length (rows_in xs)
 rows_part xs k = omega (arith, ap (λ ys. length (rows_in ys)) (take-append-drop k xs), ap length (rows-append (take k xs) (drop k xs)), length-append (rows_in (take k xs)) (rows_in (drop k xs)))
-
--- to read each row once is within the bound of a selection
-pub select_least : (x : Column) (n : ℕ) → n ≤ select_bound x n
-select_least x n = omega (arith, mul-le-mul_left (8 * n) (point_least x))
-
--- the rows of a column that is seen to be chunked
-pub rows_seen : (self : Column) (c : Chunked Column) (xs : List Column) → self ≡ column.Chunked c → xs ≡ c.chunks → rows_in xs ≡ rows_of self
-rows_seen self c xs is same = ap rows_in same ∙ sym (rows_chunked c) ∙ ap rows_of (sym is)
 
 -- to cut places costs at most two searches
 places_cheap : (index : Index) → places_cut_cost index ≤ 2 * search_cost index

@@ -4,7 +4,7 @@ use Rattle.std.specs.Option.{unwrap_or}
 use Rattle.std.specs.List.{slice_range}
 use Rattle.std.proofs.lemmas.Bool.{and_parts, and_from}
 use Rattle.std.proofs.lemmas.List.{length-take-le, length-drop, length-take}
-use Rattle.std.proofs.Math.Nat.{mul-le-mul, mul-le-mul_left, le_refl}
+use Rattle.std.proofs.Math.Nat.{mul-le-mul, le_refl}
 use Rattle.vx_rows.specs.declared.value.Value.{Value}
 use Rattle.vx_base.specs.Ranges.{ends_cut}
 use Rattle.vx_search.specs.declared.result.SearchResult.TheVariants.{Found, NotFound}
@@ -215,15 +215,6 @@ rise_base x start end old mid new h1 h2 =
     ends_cut_within start end (len_of (column.Excepted x)) start end (len_of x.base) (λ z. z) (λ z. z ∙ len_excepted x) in
     subst (λ n. new ≤ old + e * n) (sym (cut_excepted x))
     (rise_three old mid new new e (places_cut_cost x.index) (cut_cost x.base) (cut_cost x.values) (ends_cut start end (len_of x.base)) 0 h1 h2 (omega arith) same (omega arith))
-
-pub rise_places : (x : Excepted Column) (start end old mid : ℕ) → mid ≤ old + ends_cut start end (len_of (column.Excepted x)) * places_cut_cost x.index →
-    mid ≤ old + ends_cut start end (len_of (column.Excepted x)) * cut_cost (column.Excepted x)
-rise_places x start end old mid h =
-    let e = ends_cut start end (len_of (column.Excepted x)) in
-    omega (arith, h, mul-le-mul_left e (places_first x))
-  where
-    places_first : (x : Excepted Column) → places_cut_cost x.index ≤ cut_cost (column.Excepted x)
-    places_first x = omega (arith, cut_excepted x)
 
 pub rise_values : (x : Excepted Column) (index : Index) (start end first last : ℕ) → IsSound (column.Excepted x) → IsPlaceSlice x.index index start end first last → (old m1 m2 new : ℕ) →
     m1 ≤ old + ends_cut start end (len_of (column.Excepted x)) * places_cut_cost x.index →

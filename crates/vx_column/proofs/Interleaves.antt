@@ -4,7 +4,6 @@ use Rattle.std.specs.List.{slice_range}
 use Rattle.std.proofs.lemmas.List.{take-map, drop-map, length-map, get_or-map}
 use Rattle.std.proofs.lemmas.Slice.Zip.{get_or-zip}
 use Rattle.vx_base.proofs.CheckLemmas.{length_numbers}
-use Rattle.vx_rows.specs.declared.dtype.DType.{DType}
 use Rattle.vx_interleave.specs.Selections.{Selection, IsSelection, arrays_of, rows_of as row_numbers, pairs_of, len_of as count_of, array_of, row_of, window_of}
 use Rattle.vx_interleave.proofs.Columns.{pairs_window, window_within, window_sound, length_pairs, array_within, row_within}
 use Rattle.vx_chunks.specs.Bounds.{total}

@@ -127,13 +127,17 @@ cut_lanes p q part start end s lanes inner i ei el sound =
       plain = λ all. plain_patched q ∙ ap is_plain ei ∙ i.plain (sym (plain_patched p) ∙ all);
     }
 
-pub rise_inner : (p : Patched Column) (start end old new : ℕ) → new ≤ old + ends_cut start end (len_of p.inner) * cut_cost p.inner →
-    new ≤ old + ends_cut start end (len_of (column.Patched p)) * cut_cost (column.Patched p)
-rise_inner p start end old new h = rw (len_patched p, cut_patched p) h
-
 -- both ends of the inner column at most are cut
 pub rise_most : (p : Patched Column) (inner : Column) (cuts old new : ℕ) → inner ≡ p.inner → cuts ≤ 2 → new ≤ old + cuts * cut_cost inner → new ≤ old + 2 * cut_cost (column.Patched p)
 rise_most p inner cuts old new e most h =
     let same : cut_cost inner ≡ cut_cost (column.Patched p) = ap cut_cost e ∙ sym (cut_patched p) in
     let rise : new ≤ old + cuts * cut_cost (column.Patched p) = subst (λ n. new ≤ old + cuts * n) same h in
     omega (arith, rise, mul-le-mul most (le_refl (cut_cost (column.Patched p))))
+
+-- a cut of the inner column costs what a cut costs
+pub rise_inner : (p : Patched Column) (inner : Column) (start end old new : ℕ) → inner ≡ p.inner → new ≤ old + ends_cut start end (len_of inner) * cut_cost inner →
+    new ≤ old + ends_cut start end (len_of (column.Patched p)) * cut_cost (column.Patched p)
+rise_inner p inner start end old new e h =
+    let long : len_of inner ≡ len_of (column.Patched p) = ap len_of e ∙ sym (len_patched p) in
+    let same : cut_cost inner ≡ cut_cost (column.Patched p) = ap cut_cost e ∙ sym (cut_patched p) in
+    subst (λ n. new ≤ old + ends_cut start end (len_of (column.Patched p)) * n) same (subst (λ n. new ≤ old + ends_cut start end n * cut_cost inner) long h)

@@ -1,6 +1,7 @@
 -- One layer of a column.
 use Rattle.std.proofs.Common.{Bool, true, ◌&&◌, ◌≡◌, ℕ, ◌+◌, ◌≤◌, List, [], ◌∷◌, map, length, refl, sym, ◌∙◌, ap, subst, arith, length-append}
 use Rattle.std.specs.List.{All, AllByRecursion}
+use Rattle.std.proofs.lemmas.Bool.{and_parts, and_from}
 use Rattle.std.proofs.lemmas.List.Elements.{All-from_recursion, recursion_from_All}
 use Rattle.vx_search.specs.Places.{search_bound}
 use Rattle.vx_chunks.specs.Bounds.{total}
@@ -11,7 +12,7 @@ use Rattle.vx_interleave.specs.Selections.{pairs_of}
 use Rattle.vx_search.proofs.Powers.{search_bound_positive}
 use Rattle.vx_base.specs.Column.{Flat, IsFlat}
 use Rattle.vx_rows.specs.declared.dtype.DType.{DType}
-use Rattle.vx_column.specs.Columns.{type_of, type_step, IsOf, lane_cost, lane_step, lane_entries, is_plain, plain_step, all_true, rows_of, rows_step, point_cost, point_step, cut_cost, cut_step, len_of, AreChunks, AreLanes, AreExceptions, AreInterleaved, IsSound, IsSoundLayer, slots_in}
+use Rattle.vx_column.specs.Columns.{type_of, type_step, lane_cost, lane_step, lane_entries, is_plain, plain_step, all_true, rows_of, rows_step, point_cost, point_step, cut_cost, cut_step, len_of, AreChunks, AreLanes, AreExceptions, AreInterleaved, IsSound, IsPlain, IsSoundLayer, slots_in}
 use Rattle.vx_job.specs.Rows.{Rows, lane_reads, joined, excepted, interleaved, greatest}
 use Rattle.vx_column.specs.declared.chunked.Chunked.{Chunked}
 use Rattle.vx_column.specs.declared.patched.Patched.{Patched}
@@ -21,7 +22,7 @@ use Rattle.vx_column.specs.declared.column.Column.{Column}
 use Rattle.vx_column.specs.declared.column.Column.TheOpen.{Column-F}
 use Rattle.vx_column.specs.declared.column.Column.TheVariants.{rolls-Flat, rolls-Chunked, rolls-Patched, rolls-Excepted, rolls-Interleave, outs-Flat, outs-Chunked, outs-Patched, outs-Excepted, outs-Interleave}
 use Rattle.vx_column.specs.declared.column.Column.TheVariants as column
-use Rattle.vx_column.specs.declared.column.Column.TheViews.{out-Column, roll-Column, roll-out-Column}
+use Rattle.vx_column.specs.declared.column.Column.TheViews.{out-Column, roll-Column}
 use Rattle.vx_column.specs.declared.column.Column.TheFolds.{every_held-Column, every_here-Column, every_made-Column, fold-roll-Column, ind-Column, map-Column}
 
 pub rows_chunked : (c : Chunked Column) → rows_of (column.Chunked c) ≡ joined (map rows_of c.chunks)
@@ -231,17 +232,21 @@ pub total_joined : (cs : List Column) → total (map len_of cs) ≡ length (join
 total_joined [] = refl
 total_joined (x ∷ cs) = omega (arith, total_joined cs, length-append (rows_of x) (joined (map rows_of cs)))
 
--- a column is of one of the encodings
-pub by_variant : (P : Column → Type 0) → ((rows : Flat) → P (column.Flat rows)) → ((c : Chunked Column) → P (column.Chunked c)) → ((p : Patched Column) → P (column.Patched p)) →
-    ((x : Excepted Column) → P (column.Excepted x)) → ((i : Interleave Column) → P (column.Interleave i)) → (x : Column) → P x
-by_variant P f c p e i x = subst P (roll-out-Column x) (by_layer (out-Column x))
-  where
-    by_layer : (y : Column-F Column) → P (roll-Column y)
-    by_layer (Column-F.Flat rows) = subst P (sym (rolls-Flat rows)) (f rows)
-    by_layer (Column-F.Chunked y) = subst P (sym (rolls-Chunked y)) (c y)
-    by_layer (Column-F.Patched y) = subst P (sym (rolls-Patched y)) (p y)
-    by_layer (Column-F.Excepted y) = subst P (sym (rolls-Excepted y)) (e y)
-    by_layer (Column-F.Interleave y) = subst P (sym (rolls-Interleave y)) (i y)
+-- the columns below a plain one are plain
+all_plain : (xs : List Column) → all_true (map is_plain xs) ≡ true → AllByRecursion IsPlain xs
+all_plain [] all = tt
+all_plain (x ∷ xs) all =
+    let both = and_parts (is_plain x) (all_true (map is_plain xs)) all in
+    (both.0, all_plain xs both.1)
+
+pub chunks_plain : (c : Chunked Column) → IsPlain (column.Chunked c) → All IsPlain c.chunks
+chunks_plain c plain = All-from_recursion IsPlain c.chunks (all_plain c.chunks (sym (plain_chunked c) ∙ plain))
+
+pub interleaved_plain : (i : Interleave Column) → IsPlain (column.Interleave i) → All IsPlain i.values
+interleaved_plain i plain = All-from_recursion IsPlain i.values (all_plain i.values (sym (plain_interleave i) ∙ plain))
+
+pub both_plain : (x : Excepted Column) → IsPlain (column.Excepted x) → IsPlain x.base × IsPlain x.values
+both_plain x plain = and_parts (is_plain x.base) (is_plain x.values) (sym (plain_excepted x) ∙ plain)
 
 -- a read costs something
 abbrev CostsSome : Column → Type 0
@@ -264,3 +269,26 @@ some_layer (Column-F.Interleave i) =
 
 pub point_least : (x : Column) → 1 ≤ point_cost x
 point_least = ind-Column CostsSome (λ x y e. subst (λ l. CostsSome (roll-Column l)) e (some_layer y))
+
+-- each column is plain: no encoding is nested
+all_known : (es : List ((x : Column) × IsPlain x)) → all_true (map is_plain (map (λ e. e.0) es)) ≡ true
+all_known [] = refl
+all_known (e ∷ es) = and_from (is_plain e.0) (all_true (map is_plain (map (λ e. e.0) es))) e.1 (all_known es)
+
+plain_layer : (y : Column-F ((x : Column) × IsPlain x)) → IsPlain (roll-Column (map-Column ((x : Column) × IsPlain x) Column (λ e. e.0) y))
+plain_layer (Column-F.Flat rows) = subst IsPlain (sym (rolls-Flat rows)) (plain_flat rows)
+plain_layer (Column-F.Chunked c) =
+    let whole : Chunked Column = record { dtype = c.dtype; boundaries = c.boundaries; chunks = map (λ e. e.0) c.chunks } in
+    subst IsPlain (sym (rolls-Chunked whole)) (plain_chunked whole ∙ all_known c.chunks)
+plain_layer (Column-F.Patched p) =
+    let whole : Patched Column = record { inner = p.inner.0; lanes = p.lanes } in
+    subst IsPlain (sym (rolls-Patched whole)) (plain_patched whole ∙ p.inner.1)
+plain_layer (Column-F.Excepted x) =
+    let whole : Excepted Column = record { base = x.base.0; index = x.index; values = x.values.0; slots = map (λ e. e.0) x.slots } in
+    subst IsPlain (sym (rolls-Excepted whole)) (plain_excepted whole ∙ and_from (is_plain x.base.0) (is_plain x.values.0) x.base.1 x.values.1)
+plain_layer (Column-F.Interleave i) =
+    let whole : Interleave Column = record { dtype = i.dtype; selectors = i.selectors; values = map (λ e. e.0) i.values } in
+    subst IsPlain (sym (rolls-Interleave whole)) (plain_interleave whole ∙ all_known i.values)
+
+pub each_plain : (x : Column) → IsPlain x
+each_plain = ind-Column IsPlain (λ x y e. subst (λ l. IsPlain (roll-Column l)) e (plain_layer y))

@@ -56,8 +56,3 @@ alike_up x xs all = All-map (λ t. AlikeTypes t (type_of x)) type_of xs all
 pub alike_down : (x : Column) (xs : List Column) → AreAlike (map type_of (x ∷ xs)) → All (λ y. AlikeTypes (type_of y) (type_of x)) xs
 alike_down x xs all k y h =
     subst (λ t. AlikeTypes t (type_of x)) (get_or-map type_of xs k y (type_of y) h) (all k (type_of y) (omega (arith, length-map xs type_of)))
-
--- the interleaved type of columns of which there is a first
-pub interleaved_first : (xs : List Column) (x : Column) → 0 < length xs → x ≡ get_or xs 0 x → interleaved_type (map type_of xs) ≡ with_nullability (type_of x) (nullability_by (some_nullable (map type_of xs)))
-interleaved_first [] x h e = absurd (omega arith)
-interleaved_first (y ∷ xs) x h e = ap (λ (c : Column). with_nullability (type_of c) (nullability_by (some_nullable (map type_of (y ∷ xs))))) (sym e)

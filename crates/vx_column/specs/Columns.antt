@@ -1,16 +1,13 @@
 -- What a column means, by recursion over it.
-use Rattle.std.specs.Prelude.{◌≡◌, ◌≤◌, ◌<◌, ◌^◌, ◌*◌, ◌/◌, ◌⊎◌, ℕ, ◌+◌, IsTrue, List, [], ◌∷◌, ◌++◌, map, max, length, get_or, Option, Some, None, Bool, true, ◌&&◌, codes, cond, ◌==◌, nat_lt}
+use Rattle.std.specs.Prelude.{◌≡◌, ◌≤◌, ◌<◌, ◌^◌, ◌*◌, ◌⊎◌, ℕ, ◌+◌, IsTrue, List, [], ◌∷◌, map, length, Option, Some, None, Bool, true, ◌&&◌, codes, cond, ◌==◌, nat_lt}
 use Rattle.std.specs.List.{slice_range, All}
-use Rattle.std.specs.Option.{unwrap_or}
 use Rattle.vx_rows.specs.declared.dtype.DType.{DType}
-use Rattle.vx_rows.specs.declared.value.Value.{Value}
 use Rattle.vx_rows.specs.declared.error.ColumnError.{ColumnError}
 use Rattle.vx_rows.specs.declared.error.ColumnError.TheVariants.{OutOfMemory, Malformed}
 use Rattle.vx_rows.specs.declared.error.Rule.TheVariants.{TooLong, ChunkType}
 use Rattle.vx_base.specs.Column.{Flat, flat, IsFlat}
 use Rattle.vx_search.specs.Places.{search_bound}
 use Rattle.vx_patches.specs.Places.{Index}
-use Rattle.vx_patches.specs.Pairs.{pairs_by, value_at}
 use Rattle.vx_patches.specs.Search.{search_cost}
 use Rattle.vx_patches.specs.Slices.{cut_cost as places_cut_cost}
 use Rattle.vx_lanes.specs.Layouts.{overlaid, exceptions, chunk_row}
@@ -109,6 +106,10 @@ plain_step (Column-F.Interleave interleave) = all_true interleave.values
 
 abbrev pub is_plain : Column → Bool
 is_plain = fold-Column Bool plain_step
+
+-- a column that isn't nested: the bounds of reads, slices and copies hold for these
+abbrev pub IsPlain : Column → Type 0
+IsPlain column = IsTrue (is_plain column)
 
 abbrev pub len_of : Column → ℕ
 len_of column = length (rows_of column)
@@ -210,7 +211,7 @@ pub record IsSliceOf (whole part : Column) (start end : ℕ) : Type 0 where
   pub point : point_cost part ≤ point_cost whole
   pub cut : cut_cost part ≤ cut_cost whole
   pub lanes : lane_cost part ≤ lane_cost whole
-  pub plain : IsTrue (is_plain whole) → IsTrue (is_plain part)
+  pub plain : IsPlain whole → IsPlain part
 
 -- all rows
 abbrev pub IsWhole : Column → ℕ → ℕ → Type 0

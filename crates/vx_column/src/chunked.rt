@@ -10,7 +10,7 @@ ghost use Rattle.vx_chunks.specs.Bounds.{running, total};
 ghost use Rattle.vx_chunks.specs.Causes.{SumCause};
 ghost use Rattle.vx_chunks.specs.Offsets.{offsets_of};
 ghost use Rattle.vx_chunks.specs.Plans.{IsPlanOf};
-ghost use Rattle.vx_column.specs.Columns.{rows_of, len_of, type_of, IsOf, IsSound, point_cost, cut_cost, select_bound};
+ghost use Rattle.vx_column.specs.Columns.{rows_of, len_of, type_of, IsOf, IsSound, IsPlain, point_cost, cut_cost, select_bound};
 ghost use Rattle.vx_column.specs.Columns.{IsSliceOf, ChunksCause, chunks_of, declared_type, last_piece};
 ghost use Rattle.vx_column.specs.Chunks.{IsMadeOf, FirstChunkCause, IsReduced, filled};
 ghost use Rattle.vx_column.specs.declared.column.Column.TheVariants.{Chunked as chunked_column};
@@ -158,6 +158,7 @@ impl Chunked<Column> {
         ensures value { result.now ≡ chunks_of self.now }
         ensures sound { All IsSound result.now }
         ensures types { All (IsOf (declared_type self.now)) result.now }
+        ensures plain { IsPlain (chunked_column self.now) → All IsPlain result.now }
     {
         self.chunks.get().as_slice()
     }
@@ -292,7 +293,7 @@ impl Chunked<Column> {
         requires inside { end ≤ len_of (chunked_column self.now) }
         ensures ok { IfOk result (λ part. IsSliceOf (chunked_column self.now) part start end) }
         ensures err { IsOkUnless result ColumnError.OutOfMemory }
-        ensures rise { steps.new ≤ steps.old
+        ensures rise { IsPlain (chunked_column self.now) → steps.new ≤ steps.old
             + ends_cut start end (len_of (chunked_column self.now)) * cut_cost (chunked_column self.now) }
         ensures monotone { steps.old ≤ steps.new }
     {
@@ -411,7 +412,7 @@ impl Chunked<Column> {
         ensures ok { IfOk result (λ row. row ≡ get_or (rows_of (chunked_column self.now)) at None) }
         ensures err { IsOkUnless result ColumnError.OutOfMemory }
         ensures free { IsFalse (type_takes_memory (type_of (chunked_column self.now))) → IsOk result }
-        ensures rise { steps.new ≤ steps.old + point_cost (chunked_column self.now) }
+        ensures rise { IsPlain (chunked_column self.now) → steps.new ≤ steps.old + point_cost (chunked_column self.now) }
         ensures monotone { steps.old ≤ steps.new }
     {
         let (chunk, place) = self.find_chunk_idx(at, steps);
@@ -424,7 +425,7 @@ impl Chunked<Column> {
         requires sound { IsSound (chunked_column self.now) }
         requires inside { at < len_of (chunked_column self.now) }
         ensures value { result ≡ is_some (get_or (rows_of (chunked_column self.now)) at None) }
-        ensures rise { steps.new ≤ steps.old + point_cost (chunked_column self.now) }
+        ensures rise { IsPlain (chunked_column self.now) → steps.new ≤ steps.old + point_cost (chunked_column self.now) }
         ensures monotone { steps.old ≤ steps.new }
     {
         let (chunk, place) = self.find_chunk_idx(at, steps);
@@ -443,7 +444,7 @@ impl Chunked<Column> {
         requires { IsSound (chunked_column self.now) }
         ensures ok { OnOk result (out.new ≡ out.old ++ rows_of (chunked_column self.now)) }
         ensures err { IsOkUnless result ColumnError.OutOfMemory }
-        ensures rise { steps.new ≤ steps.old
+        ensures rise { IsPlain (chunked_column self.now) → steps.new ≤ steps.old
             + select_bound (chunked_column self.now) (len_of (chunked_column self.now)) }
         ensures monotone { steps.old ≤ steps.new }
     {

@@ -3,7 +3,7 @@ ghost use Rattle.std.specs.Prelude.{◌≡◌, ◌+◌, ◌-◌, ◌*◌, ◌^�
 ghost use Rattle.std.specs.Prelude.{IfOk, OnOk, OnErr, IfErr, IsOk, IsTrue, IsFalse, IsOkUnless};
 ghost use Rattle.vx_rows.specs.Sizes.{type_takes_memory};
 ghost use Rattle.vx_base.specs.Ranges.{ends_cut, SliceCause};
-ghost use Rattle.vx_column.specs.Columns.{rows_of, len_of, type_of, id_of, IsSound, IsSliceOf, IsWhole, point_cost, cut_cost, select_bound};
+ghost use Rattle.vx_column.specs.Columns.{rows_of, len_of, type_of, id_of, IsSound, IsPlain, IsSliceOf, IsWhole, point_cost, cut_cost, select_bound};
 ghost use Rattle.vx_column.specs.declared.column.Column.TheVariants.{Flat as flat_column};
 
 use crate::chunked::Chunked;
@@ -120,7 +120,7 @@ impl Column {
         ensures ok { IfOk result (λ part. IsSliceOf self.now part range.start range.end) }
         ensures same { IfOk result (λ part. IsWhole self.now range.start range.end → part ≡ self.now) }
         ensures err { IfErr result (SliceCause (len_of self.now) range.start range.end) }
-        ensures rise { steps.new ≤ steps.old
+        ensures rise { IsPlain self.now → steps.new ≤ steps.old
             + ends_cut range.start range.end (len_of self.now) * cut_cost self.now }
         ensures monotone { steps.old ≤ steps.new }
     {
@@ -157,7 +157,7 @@ impl Column {
         ensures ok { IfOk result (λ part. IsSliceOf self.now part start end) }
         ensures same { IfOk result (λ part. IsWhole self.now start end → part ≡ self.now) }
         ensures err { IsOkUnless result ColumnError.OutOfMemory }
-        ensures rise { steps.new ≤ steps.old + ends_cut start end (len_of self.now) * cut_cost self.now }
+        ensures rise { IsPlain self.now → steps.new ≤ steps.old + ends_cut start end (len_of self.now) * cut_cost self.now }
         ensures monotone { steps.old ≤ steps.new }
     {
         if self.is_whole(start, end) {
@@ -185,7 +185,7 @@ impl Column {
         ensures ok { IfOk result (λ row. row ≡ get_or (rows_of self.now) at None) }
         ensures err { IsOkUnless result ColumnError.OutOfMemory }
         ensures free { IsFalse (type_takes_memory (type_of self.now)) → IsOk result }
-        ensures rise { steps.new ≤ steps.old + point_cost self.now }
+        ensures rise { IsPlain self.now → steps.new ≤ steps.old + point_cost self.now }
         ensures monotone { steps.old ≤ steps.new }
     {
         match self {
@@ -203,7 +203,7 @@ impl Column {
         requires sound { IsSound self.now }
         requires inside { at < len_of self.now }
         ensures value { result ≡ is_some (get_or (rows_of self.now) at None) }
-        ensures rise { steps.new ≤ steps.old + point_cost self.now }
+        ensures rise { IsPlain self.now → steps.new ≤ steps.old + point_cost self.now }
         ensures monotone { steps.old ≤ steps.new }
     {
         match self {
@@ -256,7 +256,7 @@ impl Column {
         ensures ok { OnOk result (out.new ≡ out.old ++ rows_of self.now) }
         ensures err { IsOkUnless result ColumnError.OutOfMemory }
         ensures left { OnErr result (out.new ≡ out.old) }
-        ensures rise { steps.new ≤ steps.old + select_bound self.now (len_of self.now) }
+        ensures rise { IsPlain self.now → steps.new ≤ steps.old + select_bound self.now (len_of self.now) }
         ensures monotone { steps.old ≤ steps.new }
     {
         let mut rows = Seq::new(alloc);
@@ -276,7 +276,7 @@ impl Column {
         requires { IsSound self.now }
         ensures ok { OnOk result (out.new ≡ out.old ++ rows_of self.now) }
         ensures err { IsOkUnless result ColumnError.OutOfMemory }
-        ensures rise { steps.new ≤ steps.old + select_bound self.now (len_of self.now) }
+        ensures rise { IsPlain self.now → steps.new ≤ steps.old + select_bound self.now (len_of self.now) }
         ensures monotone { steps.old ≤ steps.new }
     {
         match self {
@@ -297,7 +297,7 @@ impl Column {
         requires { IsSound self.now }
         ensures ok { OnOk result (out.new ≡ out.old ++ rows_of self.now) }
         ensures err { IsOkUnless result ColumnError.OutOfMemory }
-        ensures rise { steps.new ≤ steps.old + len_of self.now * point_cost self.now }
+        ensures rise { IsPlain self.now → steps.new ≤ steps.old + len_of self.now * point_cost self.now }
         ensures monotone { steps.old ≤ steps.new }
     {
         for at in 0..self.len() {

@@ -12,7 +12,7 @@ ghost use Rattle.vx_patches.specs.Slices.{cut_cost as places_cut_cost};
 ghost use Rattle.vx_job.specs.Kinds.{is_bool_or_integer, is_nullable, AreExceptionKinds};
 ghost use Rattle.vx_column.specs.Excepts.{StandsAt, IsKeptOf, IsExceptedOf};
 ghost use Rattle.vx_job.specs.Faults.{IsExceptionsFault, MadeCause};
-ghost use Rattle.vx_column.specs.Columns.{IsSound, IsSliceOf, type_of, rows_of, len_of, point_cost, cut_cost, base_of, values_of, index_of, slots_in};
+ghost use Rattle.vx_column.specs.Columns.{IsSound, IsPlain, IsSliceOf, type_of, rows_of, len_of, point_cost, cut_cost, base_of, values_of, index_of, slots_in};
 ghost use Rattle.vx_column.specs.declared.column.Column.TheVariants.{Excepted as excepted_column, Flat as flat_column};
 
 use crate::column::Column;
@@ -142,6 +142,7 @@ impl Excepted<Column> {
         requires { IsSound (excepted_column self.now) }
         ensures value { result.now ≡ base_of self.now }
         ensures sound { IsSound result.now }
+        ensures plain { IsPlain (excepted_column self.now) → IsPlain result.now }
         ensures len { len_of result.now ≡ len_of (excepted_column self.now) }
         ensures dtype { type_of result.now ≡ type_of (excepted_column self.now) }
     {
@@ -153,6 +154,7 @@ impl Excepted<Column> {
         requires { IsSound (excepted_column self.now) }
         ensures value { result.now ≡ values_of self.now }
         ensures sound { IsSound result.now }
+        ensures plain { IsPlain (excepted_column self.now) → IsPlain result.now }
         ensures len { len_of result.now ≡ length (indices_of (index_of self.now)) }
         ensures alike { AlikeTypes (type_of result.now) (type_of (excepted_column self.now)) }
     {
@@ -228,7 +230,7 @@ impl Excepted<Column> {
         requires inside { end ≤ len_of (excepted_column self.now) }
         ensures ok { IfOk result (λ part. IsSliceOf (excepted_column self.now) part start end) }
         ensures err { IsOkUnless result ColumnError.OutOfMemory }
-        ensures rise { steps.new ≤ steps.old
+        ensures rise { IsPlain (excepted_column self.now) → steps.new ≤ steps.old
             + ends_cut start end (len_of (excepted_column self.now)) * cut_cost (excepted_column self.now) }
         ensures monotone { steps.old ≤ steps.new }
     {
@@ -282,7 +284,7 @@ impl Excepted<Column> {
         ensures ok { IfOk result (λ row. row ≡ get_or (rows_of (excepted_column self.now)) at None) }
         ensures err { IsOkUnless result ColumnError.OutOfMemory }
         ensures free { IsFalse (type_takes_memory (type_of (excepted_column self.now))) → IsOk result }
-        ensures rise { steps.new ≤ steps.old + point_cost (excepted_column self.now) }
+        ensures rise { IsPlain (excepted_column self.now) → steps.new ≤ steps.old + point_cost (excepted_column self.now) }
         ensures monotone { steps.old ≤ steps.new }
     {
         match self.place_of(at, steps) {
@@ -296,7 +298,7 @@ impl Excepted<Column> {
         requires sound { IsSound (excepted_column self.now) }
         requires inside { at < len_of (excepted_column self.now) }
         ensures value { result ≡ is_some (get_or (rows_of (excepted_column self.now)) at None) }
-        ensures rise { steps.new ≤ steps.old + point_cost (excepted_column self.now) }
+        ensures rise { IsPlain (excepted_column self.now) → steps.new ≤ steps.old + point_cost (excepted_column self.now) }
         ensures monotone { steps.old ≤ steps.new }
     {
         match self.place_of(at, steps) {

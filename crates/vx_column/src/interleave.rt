@@ -5,7 +5,7 @@ ghost use Rattle.vx_rows.specs.Sizes.{type_takes_memory};
 ghost use Rattle.vx_interleave.specs.Selections.{selection};
 ghost use Rattle.vx_job.specs.Kinds.{AreInterleaveKinds};
 ghost use Rattle.vx_job.specs.Faults.{IsInterleaveFault, MadeCause};
-ghost use Rattle.vx_column.specs.Columns.{IsSound, IsSliceOf, type_of, rows_of, len_of, point_cost, interleaved_of, selectors_of};
+ghost use Rattle.vx_column.specs.Columns.{IsSound, IsPlain, IsSliceOf, type_of, rows_of, len_of, point_cost, interleaved_of, selectors_of};
 ghost use Rattle.vx_column.specs.declared.column.Column.TheVariants.{Interleave as interleave_column};
 
 use crate::column::Column;
@@ -174,6 +174,7 @@ impl Interleave<Column> {
         requires { IsSound (interleave_column self.now) }
         ensures value { result.now ≡ interleaved_of self.now }
         ensures sound { All IsSound result.now }
+        ensures plain { IsPlain (interleave_column self.now) → All IsPlain result.now }
     {
         self.values.get().as_slice()
     }
@@ -203,7 +204,7 @@ impl Interleave<Column> {
         ensures ok { IfOk result (λ row. row ≡ get_or (rows_of (interleave_column self.now)) at None) }
         ensures err { IsOkUnless result ColumnError.OutOfMemory }
         ensures free { IsFalse (type_takes_memory (type_of (interleave_column self.now))) → IsOk result }
-        ensures rise { steps.new ≤ steps.old + point_cost (interleave_column self.now) }
+        ensures rise { IsPlain (interleave_column self.now) → steps.new ≤ steps.old + point_cost (interleave_column self.now) }
         ensures monotone { steps.old ≤ steps.new }
     {
         let (value, row) = self.named(at, steps);
@@ -216,7 +217,7 @@ impl Interleave<Column> {
         requires sound { IsSound (interleave_column self.now) }
         requires inside { at < len_of (interleave_column self.now) }
         ensures value { result ≡ is_some (get_or (rows_of (interleave_column self.now)) at None) }
-        ensures rise { steps.new ≤ steps.old + point_cost (interleave_column self.now) }
+        ensures rise { IsPlain (interleave_column self.now) → steps.new ≤ steps.old + point_cost (interleave_column self.now) }
         ensures monotone { steps.old ≤ steps.new }
     {
         let (value, row) = self.named(at, steps);

@@ -6,7 +6,7 @@ ghost use Rattle.vx_base.specs.Ranges.{ends_cut};
 ghost use Rattle.vx_lanes.specs.Layouts.{IsLayout, layout, chunks_of, lane_start};
 ghost use Rattle.vx_job.specs.Kinds.{AreLaneKinds};
 ghost use Rattle.vx_job.specs.Faults.{IsLanesFault, MadeCause};
-ghost use Rattle.vx_column.specs.Columns.{IsSound, IsSliceOf, type_of, rows_of, len_of, point_cost, cut_cost};
+ghost use Rattle.vx_column.specs.Columns.{IsSound, IsPlain, IsSliceOf, type_of, rows_of, len_of, point_cost, cut_cost};
 ghost use Rattle.vx_column.specs.Columns.{inner_of, lanes_of, first_covered, end_covered, select_bound};
 ghost use Rattle.vx_column.specs.LanesOver.{IsPatchedOf};
 ghost use Rattle.vx_job.specs.Rows.{lane_reads};
@@ -123,6 +123,7 @@ impl Patched<Column> {
         requires { IsSound (patched_column self.now) }
         ensures value { result.now ≡ inner_of self.now }
         ensures sound { IsSound result.now }
+        ensures plain { IsPlain (patched_column self.now) → IsPlain result.now }
         ensures len { len_of result.now ≡ len_of (patched_column self.now) }
         ensures dtype { type_of result.now ≡ type_of (patched_column self.now) }
     {
@@ -203,7 +204,7 @@ impl Patched<Column> {
         ensures ok { IfOk result (λ part. IsSliceOf (patched_column self.now) (patched_column part)
             (first_covered (lanes_of self.now) chunks.start chunks.end) (end_covered (lanes_of self.now) chunks.start chunks.end)) }
         ensures err { IsOkUnless result ColumnError.OutOfMemory }
-        ensures rise { steps.new ≤ steps.old + 2 * cut_cost (patched_column self.now) }
+        ensures rise { IsPlain (patched_column self.now) → steps.new ≤ steps.old + 2 * cut_cost (patched_column self.now) }
         ensures monotone { steps.old ≤ steps.new }
     {
         let (lanes, rows) = self.lanes().slice_chunks(chunks)?;
@@ -228,7 +229,7 @@ impl Patched<Column> {
         requires inside { end ≤ len_of (patched_column self.now) }
         ensures ok { IfOk result (λ part. IsSliceOf (patched_column self.now) part start end) }
         ensures err { IsOkUnless result ColumnError.OutOfMemory }
-        ensures rise { steps.new ≤ steps.old
+        ensures rise { IsPlain (patched_column self.now) → steps.new ≤ steps.old
             + ends_cut start end (len_of (patched_column self.now)) * cut_cost (patched_column self.now) }
         ensures monotone { steps.old ≤ steps.new }
     {
@@ -245,7 +246,7 @@ impl Patched<Column> {
         ensures ok { IfOk result (λ row. row ≡ get_or (rows_of (patched_column self.now)) at None) }
         ensures err { IsOkUnless result ColumnError.OutOfMemory }
         ensures free { IsFalse (type_takes_memory (type_of (patched_column self.now))) → IsOk result }
-        ensures rise { steps.new ≤ steps.old + point_cost (patched_column self.now) }
+        ensures rise { IsPlain (patched_column self.now) → steps.new ≤ steps.old + point_cost (patched_column self.now) }
         ensures monotone { steps.old ≤ steps.new }
     {
         let row = self.inner().row(alloc, at, steps)?;
@@ -284,7 +285,7 @@ impl Patched<Column> {
         requires sound { IsSound (patched_column self.now) }
         requires inside { at < len_of (patched_column self.now) }
         ensures value { result ≡ is_some (get_or (rows_of (patched_column self.now)) at None) }
-        ensures rise { steps.new ≤ steps.old + point_cost (patched_column self.now) }
+        ensures rise { IsPlain (patched_column self.now) → steps.new ≤ steps.old + point_cost (patched_column self.now) }
         ensures monotone { steps.old ≤ steps.new }
     {
         self.inner().is_valid(at, steps)
@@ -318,7 +319,7 @@ impl Patched<Column> {
         requires { IsSound (patched_column self.now) }
         ensures ok { OnOk result (out.new ≡ out.old ++ rows_of (patched_column self.now)) }
         ensures err { IsOkUnless result ColumnError.OutOfMemory }
-        ensures rise { steps.new ≤ steps.old + select_bound (patched_column self.now) (len_of (patched_column self.now)) }
+        ensures rise { IsPlain (patched_column self.now) → steps.new ≤ steps.old + select_bound (patched_column self.now) (len_of (patched_column self.now)) }
         ensures monotone { steps.old ≤ steps.new }
     {
         let mut rows = Seq::new(alloc);

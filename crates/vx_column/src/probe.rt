@@ -2,7 +2,7 @@
 ghost use Rattle.std.specs.Prelude.{◌≡◌, ◌+◌, ◌≤◌, ◌<◌, get_or, None, IfOk, IfErr, OnOk, IsOk, IsFalse, is_some, is_none};
 ghost use Rattle.vx_rows.specs.Sizes.{type_takes_memory};
 ghost use Rattle.vx_column.specs.Causes.{PointCause, BeyondCause};
-ghost use Rattle.vx_column.specs.Columns.{type_of, rows_of, len_of, IsSound, point_cost};
+ghost use Rattle.vx_column.specs.Columns.{type_of, rows_of, len_of, IsSound, IsPlain, point_cost};
 ghost use Rattle.vx_column.specs.Probes.{probed};
 
 use crate::column::Column;
@@ -48,7 +48,7 @@ impl<'a> ArrayProbe<'a> {
         ensures err { IfErr result (PointCause (len_of (probed self.old)) index) }
         ensures free { IsFalse (type_takes_memory (type_of (probed self.old))) →
             index < len_of (probed self.old) → IsOk result }
-        ensures rise { steps.new ≤ steps.old + point_cost (probed self.old) }
+        ensures rise { IsPlain (probed self.old) → steps.new ≤ steps.old + point_cost (probed self.old) }
         ensures monotone { steps.old ≤ steps.new }
     {
         match self {
@@ -74,7 +74,7 @@ impl<'a> ArrayProbe<'a> {
         ensures ok { IfOk result (λ valid. valid ≡ is_some (get_or (rows_of (probed self.old)) index None)) }
         ensures inside { OnOk result (index < len_of (probed self.old)) }
         ensures err { IfErr result (BeyondCause (len_of (probed self.old)) index) }
-        ensures rise { steps.new ≤ steps.old + point_cost (probed self.old) }
+        ensures rise { IsPlain (probed self.old) → steps.new ≤ steps.old + point_cost (probed self.old) }
         ensures monotone { steps.old ≤ steps.new }
     {
         match self {
@@ -100,7 +100,7 @@ impl<'a> ArrayProbe<'a> {
         ensures ok { IfOk result (λ invalid. invalid ≡ is_none (get_or (rows_of (probed self.old)) index None)) }
         ensures inside { OnOk result (index < len_of (probed self.old)) }
         ensures err { IfErr result (BeyondCause (len_of (probed self.old)) index) }
-        ensures rise { steps.new ≤ steps.old + point_cost (probed self.old) }
+        ensures rise { IsPlain (probed self.old) → steps.new ≤ steps.old + point_cost (probed self.old) }
         ensures monotone { steps.old ≤ steps.new }
     {
         Ok(!self.execute_is_valid(alloc, index, steps)?)

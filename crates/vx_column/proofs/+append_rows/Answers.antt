@@ -1,17 +1,18 @@
-use Rattle.std.proofs.Common.{◌+◌, ◌++◌, sym, arith, ap, ◌∙◌, take, append_assoc}
+use Rattle.vx_column.specs.declared.column.Column.{Column}
+use Rattle.std.proofs.Common.{◌+◌, ◌++◌, sym, arith, ap, ◌∙◌, take, append_assoc, subst, ◌≤◌}
 use Rattle.std.proofs.lemmas.List.{take_all}
-use Rattle.vx_column.specs.Columns.{rows_of}
-use Rattle.vx_column.proofs.Cuts.{rows_in, rows_more}
+use Rattle.vx_column.specs.Columns.{rows_of, IsPlain, select_bound, len_of}
+use Rattle.vx_column.proofs.Cuts.{rows_in, rows_more, held_at}
 use Rattle.vx_column.proofs.Layers.{rows_chunked}
 use Rattle.vx_column.proofs.Appends.{append_next, append_bound}
 use Rattle.vx_column.proofs.+append_rows.Goals as goal
 
 pub chunked::Chunked+Column::append_rows-returns-in_err-append_rows-clause-rise : goal.chunked::Chunked+Column::append_rows-returns-in_err-append_rows-clause-rise
-chunked::Chunked+Column::append_rows-returns-in_err-append_rows-clause-rise g t c =
+chunked::Chunked+Column::append_rows-returns-in_err-append_rows-clause-rise g t c plain =
     let self = c.args.self.now in
     let xs = c.children-chunk-items.result.now in
     let k = c.loop-chunk.chunk-index in
-    let next = append_next self xs k c.chunk-item.result c.args.steps.now c.loop-chunk.steps c.append_rows.new.steps c.children-chunk-items.ensures.value (omega arith) c.chunk-item.is c.loop-chunk.invariant.rise c.append_rows.ensures.rise in
+    let next = append_next self xs k c.chunk-item.result c.args.steps.now c.loop-chunk.steps c.append_rows.new.steps c.children-chunk-items.ensures.value (omega arith) c.chunk-item.is (c.loop-chunk.invariant.rise plain) (c.append_rows.ensures.rise (held_at IsPlain xs k c.chunk-item.result (c.children-chunk-items.ensures.plain plain) (omega arith) c.chunk-item.is)) in
     append_bound self xs (k + 1) c.args.steps.now c.append_rows.new.steps c.children-chunk-items.ensures.value next
 
 pub chunked::Chunked+Column::append_rows-loop-chunk-preserved : goal.chunked::Chunked+Column::append_rows-loop-chunk-preserved
@@ -24,7 +25,7 @@ chunked::Chunked+Column::append_rows-loop-chunk-preserved g t c =
     record {
       appended = c.in_ok-append_rows.ensures.ok ∙ ap (λ r. r ++ rows_of c.chunk-item.result) c.loop-chunk.invariant.appended
           ∙ append_assoc old (rows_in (take k xs)) (rows_of c.chunk-item.result) ∙ ap (λ r. old ++ r) (sym more);
-      rise = append_next self xs k c.chunk-item.result c.args.steps.now c.loop-chunk.steps c.append_rows.new.steps c.children-chunk-items.ensures.value (omega arith) c.chunk-item.is c.loop-chunk.invariant.rise c.append_rows.ensures.rise;
+      rise = λ plain. append_next self xs k c.chunk-item.result c.args.steps.now c.loop-chunk.steps c.append_rows.new.steps c.children-chunk-items.ensures.value (omega arith) c.chunk-item.is (c.loop-chunk.invariant.rise plain) (c.append_rows.ensures.rise (held_at IsPlain xs k c.chunk-item.result (c.children-chunk-items.ensures.plain plain) (omega arith) c.chunk-item.is));
       monotone = omega (arith, c.append_rows.ensures.monotone, c.loop-chunk.invariant.monotone);
     }
 
@@ -37,5 +38,13 @@ chunked::Chunked+Column::append_rows-returns-clause-ok g t c =
     c.loop-chunk.invariant.appended ∙ ap (λ ys. old ++ rows_in ys) (take_all k xs (omega arith) ∙ c.children-chunk-items.ensures.value) ∙ ap (λ r. old ++ r) (sym (rows_chunked self))
 
 pub chunked::Chunked+Column::append_rows-returns-clause-rise : goal.chunked::Chunked+Column::append_rows-returns-clause-rise
-chunked::Chunked+Column::append_rows-returns-clause-rise g t c =
-    append_bound c.args.self.now c.children-chunk-items.result.now c.loop-chunk.chunk-index c.args.steps.now c.loop-chunk.steps c.children-chunk-items.ensures.value c.loop-chunk.invariant.rise
+chunked::Chunked+Column::append_rows-returns-clause-rise g t c plain =
+    append_bound c.args.self.now c.children-chunk-items.result.now c.loop-chunk.chunk-index c.args.steps.now c.loop-chunk.steps c.children-chunk-items.ensures.value (c.loop-chunk.invariant.rise plain)
+
+pub column::Column::append_rows-returns-in-Chunked-clause-rise : goal.column::Column::append_rows-returns-in-Chunked-clause-rise
+column::Column::append_rows-returns-in-Chunked-clause-rise g t c =
+    subst (λ (x : Column). IsPlain x → c.append_rows.new.steps ≤ c.args.steps.now + select_bound x (len_of x)) (sym c.in-Chunked.is) c.append_rows.ensures.rise
+
+pub column::Column::append_rows-returns-in-Patched-clause-rise : goal.column::Column::append_rows-returns-in-Patched-clause-rise
+column::Column::append_rows-returns-in-Patched-clause-rise g t c =
+    subst (λ (x : Column). IsPlain x → c.append_rows-in-Patched.new.steps ≤ c.args.steps.now + select_bound x (len_of x)) (sym c.in-Patched.is) c.append_rows-in-Patched.ensures.rise

@@ -1,14 +1,14 @@
-use Rattle.std.proofs.Common.{refl, ◌≡◌, ◌+◌, ◌-◌, ◌*◌, ◌<◌, ◌≤◌, List, length, subst, ap, ◌∙◌, arith}
+use Rattle.std.proofs.Common.{refl, ◌≡◌, ◌+◌, ◌-◌, ◌*◌, ◌<◌, ◌≤◌, List, length, subst, ap, ◌∙◌, arith, sym}
 use Rattle.std.proofs.lemmas.List.Elements.{All-take, All-drop}
 use Rattle.std.proofs.lemmas.List.{length-map}
 use Rattle.std.proofs.lemmas.Bool.{false≢true}
 use Rattle.std.proofs.lemmas.Result.{IfOk-weaker}
 use Rattle.std.specs.List.{slice_range}
 use Rattle.vx_base.specs.Ranges.{ends_cut}
-use Rattle.vx_column.specs.Columns.{len_of, IsSound, cut_cost, IsSliceOf, IsOf, IsWhole}
+use Rattle.vx_column.specs.Columns.{len_of, IsSound, cut_cost, IsSliceOf, IsOf, IsWhole, IsPlain}
 use Rattle.vx_column.specs.declared.column.Column.{Column}
 use Rattle.vx_column.specs.declared.column.Column.TheVariants as column
-use Rattle.vx_column.proofs.Cuts.{cut_one, cut_many, fits_many, same_at, held_at, all_round, rise_inside, rise_front, rise_across, rise_plan, flat_slice, whole_slice, total_is}
+use Rattle.vx_column.proofs.Cuts.{cut_one, cut_many, fits_many, same_at, held_at, all_round, rise_inside, rise_front, rise_across, rise_plan, flat_slice, whole_slice, total_is, plain_in}
 use Rattle.std.proofs.Common.{sym}
 use Rattle.vx_lanes.specs.Layouts.{layout_slice}
 use Rattle.vx_lanes.specs.declared.layout.Layout.{Layout}
@@ -16,7 +16,7 @@ use Rattle.vx_column.specs.Excepts.{IsKeptOf, IsExceptedOf}
 use Rattle.vx_column.specs.LanesOver.{IsPatchedOf}
 use Rattle.vx_column.proofs.Layers.{lanes_here}
 use Rattle.vx_column.proofs.Excepts.{cut_kinds, cut_some, cut_none, rise_base, rise_values}
-use Rattle.vx_column.proofs.LaneRows.{IsLaneCut, lanes_slice, layout_long, cut_kinds as lane_kinds, cut_lanes}
+use Rattle.vx_column.proofs.LaneRows.{IsLaneCut, lanes_slice, layout_long, cut_kinds as lane_kinds, cut_lanes, rise_inner}
 use Rattle.vx_column.proofs.+cut.Goals as goal
 
 pub chunked::Chunked+Column::cut-returns-in_ok-share-in-Whole-clause-ok : goal.chunked::Chunked+Column::cut-returns-in_ok-share-in-Whole-clause-ok
@@ -25,11 +25,11 @@ chunked::Chunked+Column::cut-returns-in_ok-share-in-Whole-clause-ok g t c =
     whole_slice (column.Chunked self) _ c.args.start c.args.end (ap column.Chunked c.in_ok-share-in-Whole.ensures.ok) c.requires.sound c.in-Whole.ensures.plan.0 (c.in-Whole.ensures.plan.1 ∙ total_is self)
 
 pub chunked::Chunked+Column::cut-returns-in_ok-share-in-Whole-clause-rise : goal.chunked::Chunked+Column::cut-returns-in_ok-share-in-Whole-clause-rise
-chunked::Chunked+Column::cut-returns-in_ok-share-in-Whole-clause-rise g t c =
+chunked::Chunked+Column::cut-returns-in_ok-share-in-Whole-clause-rise g t c plain =
     rise_plan c.args.self.now c.args.start c.args.end c.args.steps.now c.pieces-plan.new.steps c.pieces-plan.ensures.rise
 
 pub chunked::Chunked+Column::cut-returns-in-Empty-clause-rise : goal.chunked::Chunked+Column::cut-returns-in-Empty-clause-rise
-chunked::Chunked+Column::cut-returns-in-Empty-clause-rise g t c =
+chunked::Chunked+Column::cut-returns-in-Empty-clause-rise g t c plain =
     rise_plan c.args.self.now c.args.start c.args.end c.args.steps.now c.pieces-plan.new.steps c.pieces-plan.ensures.rise
 
 pub chunked::Chunked+Column::cut-returns-in-One-clause-ok : goal.chunked::Chunked+Column::cut-returns-in-One-clause-ok
@@ -46,17 +46,17 @@ chunked::Chunked+Column::cut-returns-in-One-clause-ok g t c =
     c.cut.ensures.ok
 
 pub chunked::Chunked+Column::cut-returns-in-One-clause-rise : goal.chunked::Chunked+Column::cut-returns-in-One-clause-rise
-chunked::Chunked+Column::cut-returns-in-One-clause-rise g t c =
+chunked::Chunked+Column::cut-returns-in-One-clause-rise g t c plain =
     let self = c.args.self.now in
     let at = c.in-One in
     let span = at.ensures.plan.1 in
     let same = c.children-chunks.ensures.value in
     let x = c.index-chunks-chunk.result in
     let at_x = same_at c.children-chunks.result.now self.chunks at.chunk x same c.index-chunks-chunk.is in
-    rise_inside self c.args.start c.args.end at.chunk at.start at.chunk at.end span refl x at_x c.args.steps.now c.pieces-plan.new.steps c.cut.new.steps c.pieces-plan.ensures.rise c.cut.ensures.rise
+    rise_inside self c.args.start c.args.end at.chunk at.start at.chunk at.end span refl x at_x c.args.steps.now c.pieces-plan.new.steps c.cut.new.steps c.pieces-plan.ensures.rise (c.cut.ensures.rise (plain_in self at.chunk x plain span.within at_x))
 
 pub chunked::Chunked+Column::cut-returns-in_err-front-in-Many-clause-rise : goal.chunked::Chunked+Column::cut-returns-in_err-front-in-Many-clause-rise
-chunked::Chunked+Column::cut-returns-in_err-front-in-Many-clause-rise g t c =
+chunked::Chunked+Column::cut-returns-in_err-front-in-Many-clause-rise g t c plain =
     let self = c.args.self.now in
     let at = c.in-Many in
     let span = at.ensures.plan.2 in
@@ -66,11 +66,11 @@ chunked::Chunked+Column::cut-returns-in_err-front-in-Many-clause-rise g t c =
     let y = c.index-chunks-last.result in
     let at_y = same_at c.children-chunks.result.now self.chunks at.last y same c.index-chunks-last.is in
     let front : c.cut-in-Many.new.steps ≤ c.pieces-plan.new.steps + ends_cut at.first_start (len_of x) (len_of x) * cut_cost x =
-    subst (λ n. c.cut-in-Many.new.steps ≤ c.pieces-plan.new.steps + ends_cut at.first_start n (len_of x) * cut_cost x) c.len.ensures c.cut-in-Many.ensures.rise in
+    subst (λ n. c.cut-in-Many.new.steps ≤ c.pieces-plan.new.steps + ends_cut at.first_start n (len_of x) * cut_cost x) c.len.ensures (c.cut-in-Many.ensures.rise (plain_in self at.first x plain (omega (arith, span.ordered, span.within)) at_x)) in
     rise_front self c.args.start c.args.end at.first at.first_start at.last at.last_end span x y at_x at_y c.args.steps.now c.pieces-plan.new.steps c.cut-in-Many.new.steps c.pieces-plan.ensures.rise front
 
 pub chunked::Chunked+Column::cut-returns-in_err-back-in-Many-clause-rise : goal.chunked::Chunked+Column::cut-returns-in_err-back-in-Many-clause-rise
-chunked::Chunked+Column::cut-returns-in_err-back-in-Many-clause-rise g t c =
+chunked::Chunked+Column::cut-returns-in_err-back-in-Many-clause-rise g t c plain =
     let self = c.args.self.now in
     let at = c.in-Many in
     let span = at.ensures.plan.2 in
@@ -80,12 +80,12 @@ chunked::Chunked+Column::cut-returns-in_err-back-in-Many-clause-rise g t c =
     let y = c.index-chunks-last.result in
     let at_y = same_at c.children-chunks.result.now self.chunks at.last y same c.index-chunks-last.is in
     let front : c.cut-in-Many.new.steps ≤ c.pieces-plan.new.steps + ends_cut at.first_start (len_of x) (len_of x) * cut_cost x =
-    subst (λ n. c.cut-in-Many.new.steps ≤ c.pieces-plan.new.steps + ends_cut at.first_start n (len_of x) * cut_cost x) c.len.ensures c.cut-in-Many.ensures.rise in
+    subst (λ n. c.cut-in-Many.new.steps ≤ c.pieces-plan.new.steps + ends_cut at.first_start n (len_of x) * cut_cost x) c.len.ensures (c.cut-in-Many.ensures.rise (plain_in self at.first x plain (omega (arith, span.ordered, span.within)) at_x)) in
     rise_across self c.args.start c.args.end at.first at.first_start at.last at.last_end span x y at_x at_y c.args.steps.now c.pieces-plan.new.steps c.cut-in-Many.new.steps c.cut-in-Many-2.new.steps
-    c.pieces-plan.ensures.rise front c.cut-in-Many-2.ensures.rise
+    c.pieces-plan.ensures.rise front (c.cut-in-Many-2.ensures.rise (plain_in self at.last y plain span.within at_y))
 
 pub chunked::Chunked+Column::cut-returns-in_err-array-in-Many-clause-rise : goal.chunked::Chunked+Column::cut-returns-in_err-array-in-Many-clause-rise
-chunked::Chunked+Column::cut-returns-in_err-array-in-Many-clause-rise g t c =
+chunked::Chunked+Column::cut-returns-in_err-array-in-Many-clause-rise g t c plain =
     let self = c.args.self.now in
     let at = c.in-Many in
     let span = at.ensures.plan.2 in
@@ -95,12 +95,12 @@ chunked::Chunked+Column::cut-returns-in_err-array-in-Many-clause-rise g t c =
     let y = c.index-chunks-last.result in
     let at_y = same_at c.children-chunks.result.now self.chunks at.last y same c.index-chunks-last.is in
     let front : c.cut-in-Many.new.steps ≤ c.pieces-plan.new.steps + ends_cut at.first_start (len_of x) (len_of x) * cut_cost x =
-    subst (λ n. c.cut-in-Many.new.steps ≤ c.pieces-plan.new.steps + ends_cut at.first_start n (len_of x) * cut_cost x) c.len.ensures c.cut-in-Many.ensures.rise in
+    subst (λ n. c.cut-in-Many.new.steps ≤ c.pieces-plan.new.steps + ends_cut at.first_start n (len_of x) * cut_cost x) c.len.ensures (c.cut-in-Many.ensures.rise (plain_in self at.first x plain (omega (arith, span.ordered, span.within)) at_x)) in
     rise_across self c.args.start c.args.end at.first at.first_start at.last at.last_end span x y at_x at_y c.args.steps.now c.pieces-plan.new.steps c.cut-in-Many.new.steps c.cut-in-Many-2.new.steps
-    c.pieces-plan.ensures.rise front c.cut-in-Many-2.ensures.rise
+    c.pieces-plan.ensures.rise front (c.cut-in-Many-2.ensures.rise (plain_in self at.last y plain span.within at_y))
 
 pub chunked::Chunked+Column::cut-returns-in_ok-array-in-Many-clause-rise : goal.chunked::Chunked+Column::cut-returns-in_ok-array-in-Many-clause-rise
-chunked::Chunked+Column::cut-returns-in_ok-array-in-Many-clause-rise g t c =
+chunked::Chunked+Column::cut-returns-in_ok-array-in-Many-clause-rise g t c plain =
     let self = c.args.self.now in
     let at = c.in-Many in
     let span = at.ensures.plan.2 in
@@ -110,9 +110,9 @@ chunked::Chunked+Column::cut-returns-in_ok-array-in-Many-clause-rise g t c =
     let y = c.index-chunks-last.result in
     let at_y = same_at c.children-chunks.result.now self.chunks at.last y same c.index-chunks-last.is in
     let front : c.cut-in-Many.new.steps ≤ c.pieces-plan.new.steps + ends_cut at.first_start (len_of x) (len_of x) * cut_cost x =
-    subst (λ n. c.cut-in-Many.new.steps ≤ c.pieces-plan.new.steps + ends_cut at.first_start n (len_of x) * cut_cost x) c.len.ensures c.cut-in-Many.ensures.rise in
+    subst (λ n. c.cut-in-Many.new.steps ≤ c.pieces-plan.new.steps + ends_cut at.first_start n (len_of x) * cut_cost x) c.len.ensures (c.cut-in-Many.ensures.rise (plain_in self at.first x plain (omega (arith, span.ordered, span.within)) at_x)) in
     rise_across self c.args.start c.args.end at.first at.first_start at.last at.last_end span x y at_x at_y c.args.steps.now c.pieces-plan.new.steps c.cut-in-Many.new.steps c.cut-in-Many-2.new.steps
-    c.pieces-plan.ensures.rise front c.cut-in-Many-2.ensures.rise
+    c.pieces-plan.ensures.rise front (c.cut-in-Many-2.ensures.rise (plain_in self at.last y plain span.within at_y))
 
 pub chunked::Chunked+Column::cut-join-requires-clause-sound : goal.chunked::Chunked+Column::cut-join-requires-clause-sound
 chunked::Chunked+Column::cut-join-requires-clause-sound g t c =
@@ -177,8 +177,8 @@ column::Column::cut-returns-in_ok-rows-in-Flat-clause-ok g t c =
     flat_slice c.args.self.now c.in-Flat.rows c.in_ok-rows-in-Flat.rows c.args.start c.args.end c.in-Flat.is c.in_ok-rows-in-Flat.ensures.ok c.in_ok-rows-in-Flat.ensures.fits
 
 pub excepted::Excepted+Column::cut-returns-in_err-base-clause-rise : goal.excepted::Excepted+Column::cut-returns-in_err-base-clause-rise
-excepted::Excepted+Column::cut-returns-in_err-base-clause-rise g t c =
-    let rise = subst (λ (x : Column). c.cut.new.steps ≤ c.kept.new.steps + ends_cut c.args.start c.args.end (len_of x) * cut_cost x) c.base.ensures.value c.cut.ensures.rise in
+excepted::Excepted+Column::cut-returns-in_err-base-clause-rise g t c plain =
+    let rise = subst (λ (x : Column). c.cut.new.steps ≤ c.kept.new.steps + ends_cut c.args.start c.args.end (len_of x) * cut_cost x) c.base.ensures.value (c.cut.ensures.rise (c.base.ensures.plain plain)) in
     rise_base c.args.self.now c.args.start c.args.end c.args.steps.now c.kept.new.steps c.cut.new.steps c.kept.ensures.rise rise
 
 pub excepted::Excepted+Column::cut-returns-in_default-clause-ok : goal.excepted::Excepted+Column::cut-returns-in_default-clause-ok
@@ -188,17 +188,17 @@ excepted::Excepted+Column::cut-returns-in_default-clause-ok g t c =
     cut_none self c.args.start c.args.end c.requires.sound (subst (IsKeptOf self c.args.start c.args.end) c.in_default.is c.in_ok-kept.ensures.ok) c.in_ok-base.base base
 
 pub excepted::Excepted+Column::cut-returns-in_default-clause-rise : goal.excepted::Excepted+Column::cut-returns-in_default-clause-rise
-excepted::Excepted+Column::cut-returns-in_default-clause-rise g t c =
-    let rise = subst (λ (x : Column). c.cut.new.steps ≤ c.kept.new.steps + ends_cut c.args.start c.args.end (len_of x) * cut_cost x) c.base.ensures.value c.cut.ensures.rise in
+excepted::Excepted+Column::cut-returns-in_default-clause-rise g t c plain =
+    let rise = subst (λ (x : Column). c.cut.new.steps ≤ c.kept.new.steps + ends_cut c.args.start c.args.end (len_of x) * cut_cost x) c.base.ensures.value (c.cut.ensures.rise (c.base.ensures.plain plain)) in
     rise_base c.args.self.now c.args.start c.args.end c.args.steps.now c.kept.new.steps c.cut.new.steps c.kept.ensures.rise rise
 
 pub excepted::Excepted+Column::cut-returns-in_err-values-clause-rise : goal.excepted::Excepted+Column::cut-returns-in_err-values-clause-rise
-excepted::Excepted+Column::cut-returns-in_err-values-clause-rise g t c =
+excepted::Excepted+Column::cut-returns-in_err-values-clause-rise g t c plain =
     let self = c.args.self.now in
     let places = c.in-Some.places in
     let kept = subst (IsKeptOf self c.args.start c.args.end) c.in-Some.is c.in_ok-kept.ensures.ok in
-    let base = subst (λ (x : Column). c.cut.new.steps ≤ c.kept.new.steps + ends_cut c.args.start c.args.end (len_of x) * cut_cost x) c.base.ensures.value c.cut.ensures.rise in
-    let values = subst (λ (x : Column). c.cut-2.new.steps ≤ c.cut.new.steps + ends_cut places.start places.end (len_of x) * cut_cost x) c.values-values.ensures.value c.cut-2.ensures.rise in
+    let base = subst (λ (x : Column). c.cut.new.steps ≤ c.kept.new.steps + ends_cut c.args.start c.args.end (len_of x) * cut_cost x) c.base.ensures.value (c.cut.ensures.rise (c.base.ensures.plain plain)) in
+    let values = subst (λ (x : Column). c.cut-2.new.steps ≤ c.cut.new.steps + ends_cut places.start places.end (len_of x) * cut_cost x) c.values-values.ensures.value (c.cut-2.ensures.rise (c.values-values.ensures.plain plain)) in
     rise_values self c.in-Some.index c.args.start c.args.end places.start places.end c.requires.sound kept.0 c.args.steps.now c.kept.new.steps c.cut.new.steps c.cut-2.new.steps c.kept.ensures.rise base values
 
 pub excepted::Excepted+Column::cut-column_of-requires-clause-kinds : goal.excepted::Excepted+Column::cut-column_of-requires-clause-kinds
@@ -224,12 +224,12 @@ excepted::Excepted+Column::cut-returns-clause-ok g t c =
     c.column_of.ensures.ok
 
 pub excepted::Excepted+Column::cut-returns-clause-rise : goal.excepted::Excepted+Column::cut-returns-clause-rise
-excepted::Excepted+Column::cut-returns-clause-rise g t c =
+excepted::Excepted+Column::cut-returns-clause-rise g t c plain =
     let self = c.args.self.now in
     let places = c.in-Some.places in
     let kept = subst (IsKeptOf self c.args.start c.args.end) c.in-Some.is c.in_ok-kept.ensures.ok in
-    let base = subst (λ (x : Column). c.cut.new.steps ≤ c.kept.new.steps + ends_cut c.args.start c.args.end (len_of x) * cut_cost x) c.base.ensures.value c.cut.ensures.rise in
-    let values = subst (λ (x : Column). c.cut-2.new.steps ≤ c.cut.new.steps + ends_cut places.start places.end (len_of x) * cut_cost x) c.values-values.ensures.value c.cut-2.ensures.rise in
+    let base = subst (λ (x : Column). c.cut.new.steps ≤ c.kept.new.steps + ends_cut c.args.start c.args.end (len_of x) * cut_cost x) c.base.ensures.value (c.cut.ensures.rise (c.base.ensures.plain plain)) in
+    let values = subst (λ (x : Column). c.cut-2.new.steps ≤ c.cut.new.steps + ends_cut places.start places.end (len_of x) * cut_cost x) c.values-values.ensures.value (c.cut-2.ensures.rise (c.values-values.ensures.plain plain)) in
     rise_values self c.in-Some.index c.args.start c.args.end places.start places.end c.requires.sound kept.0 c.args.steps.now c.kept.new.steps c.cut.new.steps c.cut-2.new.steps c.kept.ensures.rise base values
 
 pub patched::Patched+Column::cut-column_of-requires-clause-kinds : goal.patched::Patched+Column::cut-column_of-requires-clause-kinds
@@ -287,3 +287,23 @@ pub column::Column::cut-returns-in-Interleave-clause-same : goal.column::Column:
 column::Column::cut-returns-in-Interleave-clause-same g t c =
     IfOk-weaker c.cut-in-Interleave.result _ (λ part. IsWhole c.args.self.now c.args.start c.args.end → part ≡ c.args.self.now)
     (λ part _ whole. absurd (false≢true (sym c.if-is_whole.false ∙ c.is_whole.ensures.1 whole))) c.cut-in-Interleave.ensures.ok
+
+pub patched::Patched+Column::cut-returns-in_err-inner-clause-rise : goal.patched::Patched+Column::cut-returns-in_err-inner-clause-rise
+patched::Patched+Column::cut-returns-in_err-inner-clause-rise g t c plain =
+    rise_inner c.args.self.now c.inner.result.now c.args.start c.args.end c.args.steps.now c.cut.new.steps c.inner.ensures.value (c.cut.ensures.rise (c.inner.ensures.plain plain))
+
+pub patched::Patched+Column::cut-returns-clause-rise : goal.patched::Patched+Column::cut-returns-clause-rise
+patched::Patched+Column::cut-returns-clause-rise g t c plain =
+    rise_inner c.args.self.now c.inner.result.now c.args.start c.args.end c.args.steps.now c.cut.new.steps c.inner.ensures.value (c.cut.ensures.rise (c.inner.ensures.plain plain))
+
+pub column::Column::cut-returns-in-Chunked-clause-rise : goal.column::Column::cut-returns-in-Chunked-clause-rise
+column::Column::cut-returns-in-Chunked-clause-rise g t c =
+    subst (λ (x : Column). IsPlain x → c.cut.new.steps ≤ c.args.steps.now + ends_cut c.args.start c.args.end (len_of x) * cut_cost x) (sym c.in-Chunked.is) c.cut.ensures.rise
+
+pub column::Column::cut-returns-in-Patched-clause-rise : goal.column::Column::cut-returns-in-Patched-clause-rise
+column::Column::cut-returns-in-Patched-clause-rise g t c =
+    subst (λ (x : Column). IsPlain x → c.cut-in-Patched.new.steps ≤ c.args.steps.now + ends_cut c.args.start c.args.end (len_of x) * cut_cost x) (sym c.in-Patched.is) c.cut-in-Patched.ensures.rise
+
+pub column::Column::cut-returns-in-Excepted-clause-rise : goal.column::Column::cut-returns-in-Excepted-clause-rise
+column::Column::cut-returns-in-Excepted-clause-rise g t c =
+    subst (λ (x : Column). IsPlain x → c.cut-in-Excepted.new.steps ≤ c.args.steps.now + ends_cut c.args.start c.args.end (len_of x) * cut_cost x) (sym c.in-Excepted.is) c.cut-in-Excepted.ensures.rise

@@ -10,9 +10,9 @@ use Rattle.vx_column.proofs.LaneRows.{IsLaneCut, lanes_chunks, cut_kinds, cut_la
 use Rattle.vx_column.proofs.patched.Patched+Column.slice_chunks.Goals as goal
 
 pub returns-in_err-inner-clause-rise : goal.returns-in_err-inner-clause-rise
-returns-in_err-inner-clause-rise g c =
+returns-in_err-inner-clause-rise g c plain =
     let rows = c.in_ok-lanes.rows in
-    rise_most c.args.self.now c.inner.result.now (ends_cut rows.start rows.end (len_of c.inner.result.now)) c.args.steps.now c.slice.new.steps c.inner.ensures.value (ends_cut_most rows.start rows.end (len_of c.inner.result.now)) c.slice.ensures.rise
+    rise_most c.args.self.now c.inner.result.now (ends_cut rows.start rows.end (len_of c.inner.result.now)) c.args.steps.now c.slice.new.steps c.inner.ensures.value (ends_cut_most rows.start rows.end (len_of c.inner.result.now)) (c.slice.ensures.rise (c.inner.ensures.plain plain))
 
 pub of-requires-clause-kinds : goal.of-requires-clause-kinds
 of-requires-clause-kinds g c =
@@ -49,11 +49,11 @@ returns-clause-ok g c =
     c.in_ok-array.ensures.inner c.in_ok-array.ensures.lanes c.in_ok-array.ensures.sound
 
 pub returns-clause-rise : goal.returns-clause-rise
-returns-clause-rise g c =
+returns-clause-rise g c plain =
     let rows = c.in_ok-lanes.rows in
-    rise_most c.args.self.now c.inner.result.now (ends_cut rows.start rows.end (len_of c.inner.result.now)) c.args.steps.now c.slice.new.steps c.inner.ensures.value (ends_cut_most rows.start rows.end (len_of c.inner.result.now)) c.slice.ensures.rise
+    rise_most c.args.self.now c.inner.result.now (ends_cut rows.start rows.end (len_of c.inner.result.now)) c.args.steps.now c.slice.new.steps c.inner.ensures.value (ends_cut_most rows.start rows.end (len_of c.inner.result.now)) (c.slice.ensures.rise (c.inner.ensures.plain plain))
 
 pub returns-in_err-array-clause-rise : goal.returns-in_err-array-clause-rise
-returns-in_err-array-clause-rise g c =
+returns-in_err-array-clause-rise g c plain =
     let rows = c.in_ok-lanes.rows in
-    rise_most c.args.self.now c.inner.result.now (ends_cut rows.start rows.end (len_of c.inner.result.now)) c.args.steps.now c.slice.new.steps c.inner.ensures.value (ends_cut_most rows.start rows.end (len_of c.inner.result.now)) c.slice.ensures.rise
+    rise_most c.args.self.now c.inner.result.now (ends_cut rows.start rows.end (len_of c.inner.result.now)) c.args.steps.now c.slice.new.steps c.inner.ensures.value (ends_cut_most rows.start rows.end (len_of c.inner.result.now)) (c.slice.ensures.rise (c.inner.ensures.plain plain))
