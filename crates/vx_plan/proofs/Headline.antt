@@ -1,5 +1,5 @@
 -- From the first column to the parts.
-use Rattle.std.proofs.Common.{◌≡◌, ◌⊎◌, inl, inr, ℕ, ◌+◌, ◌*◌, ◌≤◌, ◌<◌, List, [], ◌∷◌, map, length, get_or, sym, ◌∙◌, ap, subst, arith, IsTrue}
+use Rattle.std.proofs.Common.{◌≡◌, ◌⊎◌, inl, inr, ℕ, ◌+◌, ◌*◌, ◌≤◌, ◌<◌, List, [], ◌∷◌, map, length, get_or, sym, ◌∙◌, ap, subst, arith}
 use Rattle.std.specs.List.{All}
 use Rattle.std.proofs.Math.Nat.{mul-le-mul_left}
 use Rattle.std.proofs.lemmas.List.Elements.{All-from_recursion}
@@ -7,7 +7,7 @@ use Rattle.vx_rows.specs.declared.dtype.DType.{DType}
 use Rattle.vx_rows.specs.declared.error.ColumnError.{ColumnError}
 use Rattle.vx_rows.specs.declared.error.ColumnError.TheVariants.{OutOfMemory}
 use Rattle.vx_base.specs.Column.{Flat}
-use Rattle.vx_column.specs.Columns.{type_of, flat_of, point_cost, select_bound, is_plain, IsSound}
+use Rattle.vx_column.specs.Columns.{type_of, flat_of, point_cost, select_bound, IsPlain, IsSound}
 use Rattle.vx_column.specs.declared.column.Column.{Column}
 use Rattle.vx_job.specs.declared.part.Part.{Part}
 use Rattle.vx_job.specs.declared.step.Step.{Step}
@@ -81,9 +81,13 @@ pub open_bound : (ps : List Part) (plan : List Step) → open_cost ps ≤ plan_b
 open_bound [] plan = omega arith
 open_bound (p ∷ ps) plan = omega arith
 
-pub first_plain : (ps : List Part) (cs : List Column) (x y : Column) → IsFirst ps cs x → CostsNoMore x y → IsTrue (is_plain y)
+pub first_plain : (ps : List Part) (cs : List Column) (x y : Column) → IsFirst ps cs x → CostsNoMore x y → IsPlain y
 first_plain [] cs x y f costs = absurd f
 first_plain (p ∷ ps) cs x y f costs = costs.plain f.1.plain
+
+pub first_is_plain : (ps : List Part) (cs : List Column) (x : Column) → IsFirst ps cs x → IsPlain x
+first_is_plain [] cs x f = absurd f
+first_is_plain (p ∷ ps) cs x f = f.1.plain
 
 pub first_select : (ps : List Part) (cs : List Column) (x y : Column) (n : ℕ) → IsFirst ps cs x → CostsNoMore x y → select_bound y n ≤ rows_bound ps n
 first_select [] cs x y n f costs = absurd f

@@ -1,7 +1,7 @@
 -- What a plan gives: its answers, and its last column.
-use Rattle.std.specs.Prelude.{◌≡◌, ◌≤◌, List, IsTrue, refl}
+use Rattle.std.specs.Prelude.{◌≡◌, ◌≤◌, List, refl}
 use Rattle.std.specs.Coded.{Coded, code_by, coded×, coded_list}
-use Rattle.vx_column.specs.Columns.{type_of, point_cost, cut_cost, lane_cost, is_plain}
+use Rattle.vx_column.specs.Columns.{type_of, point_cost, cut_cost, lane_cost, IsPlain}
 use Rattle.vx_column.specs.declared.column.Column.{Column}
 use Rattle.vx_column.specs.contracts.column.Column as column_row
 use Rattle.vx_job.specs.declared.page.Answer.{Answer}
@@ -25,4 +25,4 @@ pub record CostsNoMore (before after : Column) : Type 0 where
   pub point : point_cost after ≤ point_cost before
   pub cut : cut_cost after ≤ cut_cost before
   pub lanes : lane_cost after ≤ lane_cost before
-  pub plain : IsTrue (is_plain before) → IsTrue (is_plain after)
+  pub plain : IsPlain before → IsPlain after

@@ -1,6 +1,6 @@
 //! What a plan gives to its caller.
 ghost use Rattle.std.specs.Prelude.{◌≡◌, ◌+◌, ◌≤◌, IfOk, IsOkUnless};
-ghost use Rattle.vx_column.specs.Columns.{IsSound, type_of, rows_of, len_of, select_bound};
+ghost use Rattle.vx_column.specs.Columns.{IsSound, IsPlain, type_of, rows_of, len_of, select_bound};
 ghost use Rattle.vx_plan.specs.AnswersView.{answers_view};
 ghost use Rattle.vx_job.specs.PageView.{page_view};
 
@@ -65,7 +65,7 @@ impl Answers {
     pub fn into_rows<L: Ledger>(self, alloc: Global, steps: &mut Steps<L>) -> Res<Page>
         ensures ok { IfOk result (λ page. page ≡ page_view self.answers (type_of self.column) (rows_of self.column)) }
         ensures err { IsOkUnless result ColumnError.OutOfMemory }
-        ensures rise { steps.new ≤ steps.old + select_bound self.column (len_of self.column) }
+        ensures rise { IsPlain self.column → steps.new ≤ steps.old + select_bound self.column (len_of self.column) }
         ensures monotone { steps.old ≤ steps.new }
     {
         let Answers { answers, column } = self;

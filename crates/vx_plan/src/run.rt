@@ -1,10 +1,10 @@
 //! Plans: the steps, taken in order over the first of the parts.
 ghost use Rattle.std.specs.Prelude.{◌≡◌, ℕ, ◌+◌, ◌*◌, ◌≤◌, ◌⊎◌, ◌++◌, ◌∷◌, [], length, map};
-ghost use Rattle.std.specs.Prelude.{IfOk, OnOk, IfErr, IsOkUnless, IsTrue, List};
+ghost use Rattle.std.specs.Prelude.{IfOk, OnOk, IfErr, IsOkUnless, List};
 ghost use Rattle.std.specs.List.{All};
 ghost use Rattle.std.specs.Option.{unwrap_or};
 ghost use Rattle.vx_base.specs.Column.{Flat};
-ghost use Rattle.vx_column.specs.Columns.{rows_of, len_of, type_of, flat_of, IsSound, point_cost, select_bound, is_plain};
+ghost use Rattle.vx_column.specs.Columns.{rows_of, len_of, type_of, flat_of, IsSound, IsPlain, point_cost, select_bound};
 ghost use Rattle.vx_job.specs.Rows.{picked};
 ghost use Rattle.vx_job.specs.Steps.{step_leaves, step_answers, IsStepError, IsFree, AreInside, IsPointsError, HasBound, step_cost};
 ghost use Rattle.vx_job.specs.Plans.{RunsTo, StopsWith, Reaches, IsPlanError, AreBounded, plan_cost, plan_bound, rows_bound};
@@ -34,7 +34,7 @@ pub fn run_plan<L: Ledger>(
         → IsOkUnless result ColumnError.OutOfMemory }
     ensures rise { AreBounded parts.items plan.now → steps.new ≤ steps.old + plan_bound parts.items plan.now }
     ensures monotone { steps.old ≤ steps.new }
-    ensures plain { AreBounded parts.items plan.now → IfOk result (λ a. IsTrue (is_plain a.column)) }
+    ensures plain { AreBounded parts.items plan.now → IfOk result (λ a. IsPlain a.column) }
     ensures select { AreBounded parts.items plan.now
         → IfOk result (λ a. (n : ℕ) → select_bound a.column n ≤ rows_bound parts.items n) }
 {
@@ -56,7 +56,7 @@ fn run_steps<L: Ledger>(
     ensures err { IfErr result (λ e. (e ≡ ColumnError.OutOfMemory)
         ⊎ StopsWith (map flat_of sources.now) 0 (flat_of first) plan.now e) }
     ensures costs { All (HasBound (type_of first)) plan.now → IfOk result (λ a. CostsNoMore first a.column) }
-    ensures rise { All (HasBound (type_of first)) plan.now
+    ensures rise { All (HasBound (type_of first)) plan.now → IsPlain first
         → steps.new ≤ steps.old + plan_cost (point_cost first) (select_bound first) plan.now }
     ensures monotone { steps.old ≤ steps.new }
 {
@@ -90,7 +90,7 @@ fn take_step<L: Ledger>(
         ≡ answers.old.items ++ step_answers (map flat_of sources.now) (flat_of column.now) step.now) }
     ensures err { IfErr result (λ e. (e ≡ ColumnError.OutOfMemory)
         ⊎ IsStepError (map flat_of sources.now) number (flat_of column.now) step.now e) }
-    ensures rise { HasBound (type_of column.now) step.now
+    ensures rise { HasBound (type_of column.now) step.now → IsPlain column.now
         → steps.new ≤ steps.old + step_cost (point_cost column.now) (select_bound column.now) step.now }
     ensures monotone { steps.old ≤ steps.new }
 {
@@ -115,7 +115,7 @@ fn answer_points<L: Ledger>(
     ensures answers { OnOk result (answers.new.items ≡ answers.old.items ++ answer_rows (picked (rows_of column.now) numbers.now) ∷ []) }
     ensures inside { OnOk result (AreInside (len_of column.now) numbers.now) }
     ensures err { IfErr result (λ e. (e ≡ ColumnError.OutOfMemory) ⊎ IsPointsError (len_of column.now) numbers.now e) }
-    ensures rise { steps.new ≤ steps.old + length numbers.now * point_cost column.now }
+    ensures rise { IsPlain column.now → steps.new ≤ steps.old + length numbers.now * point_cost column.now }
     ensures monotone { steps.old ≤ steps.new }
 {
     let rows = points(alloc, column, numbers, steps)?;
@@ -134,7 +134,7 @@ fn points<L: Ledger>(
     ensures ok { IfOk result (λ answer. answer ≡ picked (rows_of column.now) numbers.now) }
     ensures inside { OnOk result (AreInside (len_of column.now) numbers.now) }
     ensures err { IfErr result (λ e. (e ≡ ColumnError.OutOfMemory) ⊎ IsPointsError (len_of column.now) numbers.now e) }
-    ensures rise { steps.new ≤ steps.old + length numbers.now * point_cost column.now }
+    ensures rise { IsPlain column.now → steps.new ≤ steps.old + length numbers.now * point_cost column.now }
     ensures monotone { steps.old ≤ steps.new }
 {
     let mut probe = ArrayProbe::once(column);

@@ -1,7 +1,7 @@
 use Rattle.std.proofs.Common.{◌<◌, ◌++◌, ◌∷◌, [], List, Option, None, take, sym, ap, ◌∙◌, subst, arith, get_or}
 use Rattle.vx_rows.specs.declared.value.Value.{Value}
 use Rattle.vx_column.specs.declared.column.Column.{Column}
-use Rattle.vx_column.specs.Columns.{rows_of, len_of, point_cost}
+use Rattle.vx_column.specs.Columns.{rows_of, len_of, IsPlain, point_cost}
 use Rattle.vx_job.specs.Rows.{picked}
 use Rattle.vx_plan.proofs.Runs.{picked_more, inside_more}
 use Rattle.vx_plan.proofs.run.points.Goals as goal
@@ -21,6 +21,6 @@ loop-number-preserved g c =
           ∙ ap (λ (r : Option Value). done ++ r ∷ []) (read.ok ∙ ap (λ (x : Column). get_or (rows_of x) (get_or numbers k 0) None) inv.reads)
           ∙ sym (picked_more (rows_of column) numbers k (omega arith));
       inside = inside_more (len_of column) numbers k (omega arith) inv.inside (subst (λ (x : Column). get_or numbers k 0 < len_of x) inv.reads read.inside);
-      rise = omega (arith, c.execute_scalar.ensures.rise, inv.rise, ap point_cost inv.reads);
+      rise = λ plain. omega (arith, c.execute_scalar.ensures.rise (subst IsPlain (sym inv.reads) plain), inv.rise plain, ap point_cost inv.reads);
       monotone = omega (arith, c.execute_scalar.ensures.monotone, inv.monotone);
     }

@@ -1,5 +1,5 @@
 use Rattle.std.proofs.Common.{◌≡◌, ◌+◌, ◌*◌, ◌≤◌, take}
-use Rattle.vx_column.specs.Columns.{rows_of, len_of, point_cost}
+use Rattle.vx_column.specs.Columns.{rows_of, len_of, IsPlain, point_cost}
 use Rattle.vx_column.specs.Probes.{probed}
 use Rattle.vx_job.specs.Rows.{picked}
 use Rattle.vx_job.specs.Steps.{AreInside}
@@ -10,6 +10,6 @@ invariant-loop-number g l = record {
   reads : probed l.probe ≡ l.column;
   answer : l.rows ≡ picked (rows_of l.column) (take l.number-index l.numbers);
   inside : AreInside (len_of l.column) (take l.number-index l.numbers);
-  rise : l.steps ≤ l.initial.steps + l.number-index * point_cost l.column;
+  rise : IsPlain l.column → l.steps ≤ l.initial.steps + l.number-index * point_cost l.column;
   monotone : l.initial.steps ≤ l.steps;
 }

@@ -1,13 +1,13 @@
-use Rattle.std.proofs.Common.{◌≡◌, ◌⊎◌, ◌≤◌, ℕ, List, IsTrue, map, length, sym, ap, subst, arith}
+use Rattle.std.proofs.Common.{◌≡◌, ◌⊎◌, ◌≤◌, ℕ, List, map, length, sym, ap, subst, arith}
 use Rattle.std.proofs.lemmas.Result.{IfOk-weaker, IfErr-weaker, err_from_is_err_and}
 use Rattle.vx_rows.specs.declared.error.ColumnError.TheVariants.{OutOfMemory}
-use Rattle.vx_column.specs.Columns.{flat_of, select_bound, is_plain}
+use Rattle.vx_column.specs.Columns.{flat_of, select_bound, IsPlain}
 use Rattle.vx_job.specs.declared.part.Part.{Part}
 use Rattle.vx_job.specs.Parts.{PartsCause, open_cost}
 use Rattle.vx_job.specs.Plans.{RunsTo, StopsWith, Reaches, IsPlanError, rows_bound}
 use Rattle.vx_plan.specs.AnswersView.{CostsNoMore}
 use Rattle.vx_plan.proofs.Opened.{opened_length}
-use Rattle.vx_plan.proofs.Headline.{first_of, first_sound, first_reaches, first_error, first_bounded, first_bound, open_bound, first_plain, first_select, parts_error, only_memory}
+use Rattle.vx_plan.proofs.Headline.{first_of, first_sound, first_reaches, first_error, first_bounded, first_bound, open_bound, first_plain, first_is_plain, first_select, parts_error, only_memory}
 use Rattle.vx_plan.proofs.run.run_plan.Goals as goal
 
 -- ---- the parts aren't opened
@@ -86,7 +86,7 @@ returns-clause-rise g c bounded =
       arith,
       c.in_ok-columns.ensures.rise,
       ap open_cost c.as_slice.ensures.value,
-      c.run_steps.ensures.rise (first_bounded parts columns first plan is bounded),
+      c.run_steps.ensures.rise (first_bounded parts columns first plan is bounded) (first_is_plain parts columns first is),
       first_bound parts columns first plan is,
     )
 
@@ -98,7 +98,7 @@ returns-clause-plain g c bounded =
     let plan = c.args.plan.now in
     let is = first_of parts c.as_slice.result.now c.in_ok-columns.columns.items c.as_slice-2.result.now columns c.index-as_slice-0.result first c.as_slice.ensures.value c.in_ok-columns.ensures.ok
     c.in_ok-columns.ensures.some c.as_slice-2.ensures.value c.as_slice-3.ensures.value c.index-as_slice-0.is c.in_ok-first.ensures.ok in
-    IfOk-weaker c.run_steps.result (λ a. CostsNoMore first a.column) (λ a. IsTrue (is_plain a.column))
+    IfOk-weaker c.run_steps.result (λ a. CostsNoMore first a.column) (λ a. IsPlain a.column)
     (λ a costs. first_plain parts columns first a.column is costs) (c.run_steps.ensures.costs (first_bounded parts columns first plan is bounded))
 
 pub returns-clause-select : goal.returns-clause-select

@@ -17,7 +17,7 @@ loop-number-init g c = record {
       (continues_first (map flat_of c.args.sources.now) (flat_of c.args.first) c.args.plan.now);
   sound = c.requires;
   costs = λ bounded. costs_same c.args.first;
-  rise = λ bounded. omega arith;
+  rise = λ bounded plain. omega arith;
   monotone = omega arith;
 }
 
@@ -29,13 +29,13 @@ returns-in_err-next-clause-err g c =
     (omega arith) c.index-plan-number.is at.invariant.told c.in_err-next.ensures.err)
 
 pub returns-in_err-next-clause-rise : goal.returns-in_err-next-clause-rise
-returns-in_err-next-clause-rise g c bounded =
+returns-in_err-next-clause-rise g c bounded plain =
     let at = c.loop-number in
     let costs = at.invariant.costs bounded in
     let step = c.index-plan-number.result in
     let plan = c.args.plan.now in
-    (rise_at c.args.first at.column plan at.number step c.args.steps.now at.steps c.take_step.new.steps (omega arith) c.index-plan-number.is costs (at.invariant.rise bounded)
-    (c.take_step.ensures.rise (bound_at c.args.first at.column plan at.number step (omega arith) c.index-plan-number.is bounded costs))).1
+    (rise_at c.args.first at.column plan at.number step c.args.steps.now at.steps c.take_step.new.steps (omega arith) c.index-plan-number.is costs (at.invariant.rise bounded plain)
+    (c.take_step.ensures.rise (bound_at c.args.first at.column plan at.number step (omega arith) c.index-plan-number.is bounded costs) (costs.plain plain))).1
 
 pub loop-number-preserved : goal.loop-number-preserved
 loop-number-preserved g c =
@@ -58,10 +58,10 @@ loop-number-preserved g c =
           let costs = inv.costs bounded in
           costs_on c.args.first at.column c.unwrap_or-column.result costs
           (subst (CostsNoMore at.column) (sym c.unwrap_or-column.ensures) (taken.costs (bound_at c.args.first at.column plan at.number step (omega arith) c.index-plan-number.is bounded costs)));
-      rise = λ bounded.
+      rise = λ bounded plain.
           let costs = inv.costs bounded in
-          (rise_at c.args.first at.column plan at.number step c.args.steps.now at.steps c.take_step.new.steps (omega arith) c.index-plan-number.is costs (inv.rise bounded)
-          (c.take_step.ensures.rise (bound_at c.args.first at.column plan at.number step (omega arith) c.index-plan-number.is bounded costs))).0;
+          (rise_at c.args.first at.column plan at.number step c.args.steps.now at.steps c.take_step.new.steps (omega arith) c.index-plan-number.is costs (inv.rise bounded plain)
+          (c.take_step.ensures.rise (bound_at c.args.first at.column plan at.number step (omega arith) c.index-plan-number.is bounded costs) (costs.plain plain))).0;
       monotone = omega (arith, c.take_step.ensures.monotone, inv.monotone);
     }
 
@@ -79,7 +79,7 @@ pub returns-clause-costs : goal.returns-clause-costs
 returns-clause-costs g c bounded = subst (λ (a : AnswersView). CostsNoMore c.args.first a.column) (sym c.new.ensures) (c.loop-number.invariant.costs bounded)
 
 pub returns-clause-rise : goal.returns-clause-rise
-returns-clause-rise g c bounded =
+returns-clause-rise g c bounded plain =
     let at = c.loop-number in
     let first = c.args.first in
-    omega (arith, at.invariant.rise bounded, cost_part (point_cost first) (select_bound first) c.args.plan.now at.number)
+    omega (arith, at.invariant.rise bounded plain, cost_part (point_cost first) (select_bound first) c.args.plan.now at.number)

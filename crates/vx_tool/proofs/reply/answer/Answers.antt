@@ -20,5 +20,5 @@ returns-in-Ok-clause-ok g c =
       written = c.from_vec.ensures ∙ c.in_ok-text-in-Ok.ensures.ok ∙ ap (λ (p : PageView). line (page_json p)) c.in_ok-page-in-Ok.ensures.ok;
       rise = λ bounded.
           let here : AreBounded parts c.as_slice.result.now = subst (AreBounded parts) (sym plan) bounded in
-          omega (arith, c.in-Ok.ensures.rise here, c.into_rows.ensures.rise, c.in-Ok.ensures.select here (len_of given.column), ap (plan_bound parts) plan);
+          omega (arith, c.in-Ok.ensures.rise here, c.into_rows.ensures.rise (c.in-Ok.ensures.plain here), c.in-Ok.ensures.select here (len_of given.column), ap (plan_bound parts) plan);
     }
