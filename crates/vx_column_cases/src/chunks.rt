@@ -2,35 +2,33 @@
 ghost use Rattle.std.specs.Prelude.{All, IfOk};
 ghost use Rattle.vx_column.specs.Columns.{IsSound};
 
-use crate::opened::Opened;
+use crate::opened::{Opened, column_of};
 use crate::reading::{parts_of, type_of};
 use serde_json::Value;
 use std::io;
-use vx_base::{DType, NoLedger, Res, Steps};
+use vx_base::{DType, Res};
 use vx_column::{ChunkedArray, Column};
 use vx_plan::Part;
-use vx_plan::open::open_part;
 
-fn columns_of(rt: &HostRuntime, parts: Vec<Part>) -> Res<Vec<Column>>
+fn columns_of(rt: &HostRuntime, parts: &[Part]) -> Res<Vec<Column>>
     ensures { IfOk result (λ columns. All IsSound columns.items) }
 {
-    let mut steps = Steps::new(rt, NoLedger::new());
     let mut columns = Vec::new(rt.alloc());
     for part in parts {
-        columns.push(open_part(rt.alloc(), part, &mut steps)?)?;
+        columns.push(column_of(rt, part)?)?;
     }
     Ok(columns)
 }
 
 /// The columns of the parts as chunks of this type.
-fn of_type(rt: &HostRuntime, parts: Vec<Part>, dtype: DType) -> Res<Opened> {
+fn of_type(rt: &HostRuntime, parts: &[Part], dtype: DType) -> Res<Opened> {
     let columns = columns_of(rt, parts)?;
     let array = ChunkedArray::try_new(rt.alloc(), columns, dtype)?;
     Ok(Opened::new(Column::Chunked(array)))
 }
 
 /// The columns of the parts as chunks of the first one's type.
-fn of_first_type(rt: &HostRuntime, parts: Vec<Part>) -> Res<Opened> {
+fn of_first_type(rt: &HostRuntime, parts: &[Part]) -> Res<Opened> {
     let columns = columns_of(rt, parts)?;
     let array = ChunkedArray::try_from_chunks(rt.alloc(), columns)?;
     Ok(Opened::new(Column::Chunked(array)))
@@ -44,7 +42,7 @@ pub(crate) fn chunks_of(
 ) -> io::Result<Res<Opened>> {
     let parts = parts_of(rt.alloc(), parts)?;
     match dtype {
-        Some(dtype) => Ok(of_type(rt, parts, type_of(dtype)?)),
-        None => Ok(of_first_type(rt, parts)),
+        Some(dtype) => Ok(of_type(rt, parts.as_slice(), type_of(dtype)?)),
+        None => Ok(of_first_type(rt, parts.as_slice())),
     }
 }

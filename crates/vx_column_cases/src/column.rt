@@ -1,8 +1,7 @@
 //! Calls on columns of any encoding.
 ghost use Rattle.vx_column.specs.Columns.{IsSound};
 
-use crate::chunked;
-use crate::encodings;
+use crate::{chunked, encodings};
 use std::alloc::Global;
 use vx_base::{Ledger, Res, Seq, Steps};
 use vx_cases::Call;
@@ -72,11 +71,7 @@ pub(crate) fn answer<L: Ledger>(
         "id" => String::from_str(alloc, column.id())?,
         "len" => format!(in alloc; "{}", column.len())?,
         "nested" => format!(in alloc; "{}", column.dtype().is_nested())?,
-        "costs" => format!(in alloc;
-            "row {}, cut {}",
-            column.point_cost(),
-            column.cut_cost()
-        )?,
+        "costs" => format!(in alloc; "row {}, cut {}", column.point_cost(), column.cut_cost())?,
         "probe" => format!(in alloc; "rows {}", ArrayProbe::once(column).array().len())?,
         "row" | "valid" | "invalid" => probed(alloc, column, call, steps)?,
         "rows" => rows(alloc, column, steps)?,

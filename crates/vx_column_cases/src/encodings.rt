@@ -129,11 +129,7 @@ fn value(alloc: Global, array: &InterleaveArray, at: usize) -> Res<String>
 }
 
 /// What a call of interleaved columns answers.
-pub(crate) fn interleaved(
-    alloc: Global,
-    array: &InterleaveArray,
-    call: &Call<'_>,
-) -> Res<String>
+pub(crate) fn interleaved(alloc: Global, array: &InterleaveArray, call: &Call<'_>) -> Res<String>
     requires { IsSound (interleave_column array.now) }
 {
     Ok(match call.name {

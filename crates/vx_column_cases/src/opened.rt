@@ -1,5 +1,5 @@
 //! Columns that calls ask.
-ghost use Rattle.std.specs.Prelude.{◌≡◌};
+ghost use Rattle.std.specs.Prelude.{◌≡◌, IfOk};
 ghost use Rattle.vx_column.specs.Columns.{IsSound};
 
 use crate::chunked::{chunk, reduced};
@@ -50,16 +50,23 @@ impl Opened {
     }
 }
 
-fn open_alone(rt: &HostRuntime, part: Part) -> Res<Opened> {
+/// The column of the part.
+pub(crate) fn column_of(rt: &HostRuntime, part: &Part) -> Res<Column>
+    ensures { IfOk result IsSound }
+{
     let mut steps = Steps::new(rt, NoLedger::new());
-    let column = open_part(rt.alloc(), part, &mut steps)?;
+    open_part(rt.alloc(), part, &mut steps)
+}
+
+fn open_alone(rt: &HostRuntime, part: &Part) -> Res<Opened> {
+    let column = column_of(rt, part)?;
     Ok(Opened::new(column))
 }
 
 /// The column of the part that a value says.
 pub(crate) fn opened_of(rt: &HostRuntime, value: &Value) -> io::Result<Res<Opened>> {
     let part = part_of(rt.alloc(), value)?;
-    Ok(open_alone(rt, part))
+    Ok(open_alone(rt, &part))
 }
 
 fn sliced<L: Ledger>(

@@ -6,17 +6,14 @@ use vx_base::DType;
 use vx_json::{parts, types};
 use vx_plan::Part;
 
-/// How deep the parts of a case may nest.
-const MAX_DEPTH: usize = 128;
-
 /// The part that a value says.
 pub(crate) fn part_of(alloc: Global, value: &Value) -> io::Result<Part> {
-    parts::part_of(alloc, value, MAX_DEPTH).map_err(|_| io::Error::other("a part has no form"))
+    parts::part_of(alloc, value).map_err(|_| io::Error::other("a part has no form"))
 }
 
 /// The parts that a value says.
 pub(crate) fn parts_of(alloc: Global, value: &Value) -> io::Result<Vec<Part>> {
-    parts::parts_of(alloc, value, MAX_DEPTH).map_err(|_| io::Error::other("parts have no form"))
+    parts::parts_of(alloc, value).map_err(|_| io::Error::other("parts have no form"))
 }
 
 /// The type that a value says.
