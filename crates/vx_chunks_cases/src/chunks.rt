@@ -95,7 +95,11 @@ fn chunk_len(alloc: Global, boundaries: &Boundaries, chunk: usize) -> Result<Str
 
 impl Asked for Chunks {
     fn shape(&self, alloc: Global) -> Result<String, AllocError> {
-        format!(in alloc; "chunks {}, rows {}", self.boundaries.nchunks(), self.boundaries.len())
+        format!(in alloc;
+            "chunks {}, rows {}",
+            self.boundaries.nchunks(),
+            self.boundaries.len()
+        )
     }
 
     fn makes(&self, call: &Call<'_>) -> bool {
