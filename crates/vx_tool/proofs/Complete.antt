@@ -1,10 +1,10 @@
 -- Where neither end fails, the bytes decide the status, unless memory runs out.
-use Rattle.std.proofs.Common.{◌≡◌, ◌≤◌, ◌<◌, ℕ, List, [], length, Some, None, inl, inr, refl, sym, ◌∙◌, subst, arith}
+use Rattle.std.proofs.Common.{◌≡◌, ◌≤◌, ◌<◌, ℕ, List, length, Some, None, inl, inr, refl, sym, ◌∙◌, subst, arith}
 use Rattle.std.specs.declared.option.Option.{Option}
 use Rattle.std.specs.Io.KnownBytes.{Keeps}
 use Rattle.vx_job.specs.Plans.{Reaches, IsPlanError}
 use Rattle.vx_plan.proofs.Headline.{no_error}
-use Rattle.vx_ends.specs.Moved.{taken_len, Tells, TakesFront}
+use Rattle.vx_ends.specs.Moved.{taken_len, Tells}
 use Rattle.vx_job.specs.JobView.{JobView}
 use Rattle.vx_json.specs.Bytes.{HasNoJob}
 use Rattle.vx_json.proofs.Jobs.{one_job}
@@ -111,10 +111,6 @@ stopped_outcome status.TooLong left left' held held' before after stops same = (
 pub keeps_same : (held : Option (List ℕ)) → Keeps held held
 keeps_same None = tt
 keeps_same (Some bytes) = refl
-
-pub takes_nothing : (left : Option (List ℕ)) → TakesFront left left
-takes_nothing None = ([], tt)
-takes_nothing (Some bytes) = ([], refl)
 
 pub never_usage : (s : Status) (r : Reply) (held held' : Option (List ℕ)) → Writes s r held held' → s ≡ status.Usage → ⊥
 never_usage s r held held' w e = subst (λ (z : Status). Writes z r held held') e w
