@@ -82,7 +82,7 @@ def lanes(rows):
     )
 
 
-def woven(rows):
+def interleaved(rows):
     """Returns a part that takes its rows from two in turn."""
     arrays = (at % 2 for at in range(len(rows)))
     places = (at // 2 for at in range(len(rows)))
@@ -177,7 +177,7 @@ SHAPES = {
     ),
     "exceptions": (lambda size: (size - 40_200) * 5 // 6, lambda rows, size: excepted(rows), scattered),
     "lanes": (lambda size: (size - 40_200) * 9 // 10, lambda rows, size: lanes(rows), scattered),
-    "woven": (lambda size: (size - 40_200) * 7 // 13, lambda rows, size: woven(rows), scattered),
+    "interleaved": (lambda size: (size - 40_200) * 7 // 13, lambda rows, size: interleaved(rows), scattered),
     "texts": (lambda size: (size - 40_200) * 8 // 11, lambda rows, size: flat(rows, "utf8"), scattered),
     "whole page": (lambda size: size - 200, lambda rows, size: flat(rows), every_row),
 }
