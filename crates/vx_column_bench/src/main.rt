@@ -15,6 +15,7 @@ use vx_base::{
     CountLedger, DType, FlatColumn, NoLedger, Nullability, PType, Res, Row, Seq, Steps, Value,
 };
 use vx_column::{ArrayProbe, Column};
+use vx_plan::open::open_part;
 use vx_plan::{Boxed, Part};
 
 /// The most rows that are measured.
@@ -122,7 +123,7 @@ fn column(rt: &HostRuntime, measure: Measure, is_chunked: bool) -> Res<Column>
         values: Boxed::new(alloc, values)?,
         chunk_offsets,
     };
-    part.open(alloc, &mut Steps::new(rt, NoLedger::new()))
+    open_part(alloc, &part, &mut Steps::new(rt, NoLedger::new()))
 }
 
 /// What a row must be.
