@@ -15,8 +15,8 @@ use vx_base::{
     CountLedger, DType, FlatColumn, NoLedger, Nullability, PType, Res, Row, Seq, Steps, Value,
 };
 use vx_column::{ArrayProbe, Column};
+use vx_job::{Boxed, Part};
 use vx_plan::open::open_part;
-use vx_plan::{Boxed, Part};
 
 /// The most rows that are measured.
 const LIMIT: u64 = 4294967296;

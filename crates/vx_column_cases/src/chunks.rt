@@ -8,7 +8,7 @@ use serde_json::Value;
 use std::io;
 use vx_base::{DType, Res};
 use vx_column::{ChunkedArray, Column};
-use vx_plan::Part;
+use vx_job::Part;
 
 fn columns_of(rt: &HostRuntime, parts: &[Part]) -> Res<Vec<Column>>
     ensures { IfOk result (λ columns. All IsSound columns.items) }

@@ -13,7 +13,7 @@ use std::marker::Model;
 use vx_base::{Ledger, NoLedger, Res, Steps};
 use vx_cases::{Asked, Call};
 use vx_column::Column;
-use vx_plan::Part;
+use vx_job::Part;
 use vx_plan::open::open_part;
 
 /// A column whose parts fit together, as those of parts do.

@@ -3,8 +3,8 @@ use serde_json::Value;
 use std::alloc::Global;
 use std::io;
 use vx_base::DType;
+use vx_job::Part;
 use vx_json::{parts, types};
-use vx_plan::Part;
 
 /// The part that a value says.
 pub(crate) fn part_of(alloc: Global, value: &Value) -> io::Result<Part> {
