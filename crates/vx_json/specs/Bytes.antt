@@ -1,8 +1,7 @@
--- The job that bytes are, and the line that is written for a value.
-use Rattle.std.specs.Prelude.{◌≡◌, ℕ, List, [], ◌∷◌, ◌++◌, Some, IsUtf8}
+-- The job that bytes are.
+use Rattle.std.specs.Prelude.{◌≡◌, ℕ, List, Some, IsUtf8}
 use Rattle.serde_json.specs.Data.{Data}
 use Rattle.serde_json.specs.Read.{read}
-use Rattle.serde_json.specs.Written.{compact_text}
 use Rattle.vx_job.specs.JobView.{JobView}
 use Rattle.vx_json.specs.Job.{job_of}
 
@@ -15,7 +14,3 @@ pub record IsJobOf (bytes : List ℕ) (a : JobView) : Type 0 where
 
 abbrev pub HasNoJob : List ℕ → Type 0
 HasNoJob bytes = (a : JobView) → IsJobOf bytes a → ⊥
-
--- the compact text, and a line feed
-abbrev pub line : Data → List ℕ
-line d = compact_text d ++ 10 ∷ []

@@ -6,7 +6,3 @@ pub mod Parts
 pub mod Steps
 pub mod Job
 pub mod Bytes
-pub mod TypeJson
-pub mod RowJson
-pub mod PageJson
-pub mod RefusalJson

@@ -7,9 +7,9 @@ use Rattle.vx_job.specs.Plans.{Reaches, IsPlanError, AreBounded, plan_bound, row
 use Rattle.vx_job.specs.PageView.{page_view}
 use Rattle.vx_job.specs.declared.page.Answer.{Answer}
 use Rattle.vx_job.specs.JobView.{JobView}
-use Rattle.vx_json.specs.Bytes.{line}
-use Rattle.vx_json.specs.PageJson.{page_json}
-use Rattle.vx_json.specs.RefusalJson.{refusal_json}
+use Rattle.vx_pages.specs.Lines.{line}
+use Rattle.vx_pages.specs.PageJson.{page_json}
+use Rattle.vx_pages.specs.RefusalJson.{refusal_json}
 use Rattle.vx_tool.specs.declared.reply.Reply.{Reply}
 use Rattle.vx_tool.specs.declared.reply.Reply.TheVariants as reply
 

@@ -10,4 +10,5 @@ pub use run::run_job;
 pub use status::Status;
 pub use vx_ends::{Failed, Sink, SinkError, Source, StdinSource, StdoutSink, SureSink, SureSource};
 pub use vx_job::Job;
-pub use vx_json::{job_of, page_of};
+pub use vx_json::job_of;
+pub use vx_pages::page_of;

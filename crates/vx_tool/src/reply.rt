@@ -8,7 +8,8 @@ ghost use Rattle.vx_tool.specs.Outcome.{AnswersBytes};
 use std::alloc::Global;
 use vx_base::{ColumnError, Ledger, Res, Seq, Steps};
 use vx_job::Job;
-use vx_json::{page_line, parse_job, refusal_line};
+use vx_json::parse_job;
+use vx_pages::{page_line, refusal_line};
 use vx_plan::run_plan;
 
 /// What is written for a job: one line of text.

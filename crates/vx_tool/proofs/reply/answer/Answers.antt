@@ -3,8 +3,8 @@ use Rattle.vx_column.specs.Columns.{flat_of, len_of}
 use Rattle.vx_job.specs.Plans.{Reaches, AreBounded, plan_bound}
 use Rattle.vx_job.specs.PageView.{PageView}
 use Rattle.vx_job.specs.declared.step.Step.{Step}
-use Rattle.vx_json.specs.Bytes.{line}
-use Rattle.vx_json.specs.PageJson.{page_json}
+use Rattle.vx_pages.specs.Lines.{line}
+use Rattle.vx_pages.specs.PageJson.{page_json}
 use Rattle.vx_tool.proofs.reply.answer.Goals as goal
 
 pub returns-in-Ok-clause-ok : goal.returns-in-Ok-clause-ok

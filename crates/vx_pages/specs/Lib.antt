@@ -1,0 +1,5 @@
+pub mod TypeJson
+pub mod RowJson
+pub mod PageJson
+pub mod RefusalJson
+pub mod Lines
