@@ -2,7 +2,7 @@
 use Rattle.std.proofs.Common.{ℕ, zero, suc, ℤ, pos, ◌≡◌, ◌<◌, ◌≤◌, ◌+◌, ◌-◌, ◌∙◌, ap, sym, refl, arith, Bool, List, [], ◌∷◌, ◌++◌, length, get_or, take, drop, map, Option, Some, None, is_some, reverse}
 use Rattle.std.specs.Option.{option_map}
 use Rattle.std.specs.List.{slice_range}
-use Rattle.std.proofs.lemmas.List.{get_or-drop, length-drop, length-map, map-append}
+use Rattle.std.proofs.lemmas.List.{get_or-drop, length-drop, length-map, map-append, reverse-append}
 use Rattle.vx_rows.specs.declared.value.Value.{Value, Bool as BoolValue, Int, Decimal, out-Value, out-roll-Value}
 use Rattle.vx_rows.specs.declared.value.Value.TheOpen.{Value-F}
 use Rattle.vx_rows.specs.declared.value.Value.TheVariants.{rolls-Bool, rolls-Int, rolls-Decimal}
@@ -84,11 +84,19 @@ drop_map f zero xs = refl
 drop_map f (suc n) [] = refl
 drop_map f (suc n) (x ∷ xs) = drop_map f n xs
 
+map_reverse : {A B : Type 0} (f : A → B) (xs : List A) → map f (reverse xs) ≡ reverse (map f xs)
+map_reverse f [] = refl
+map_reverse f (x ∷ xs) =
+    ap (map f) (reverse-append (x ∷ []) xs)
+    ∙ map-append f (reverse xs) (x ∷ [])
+    ∙ ap (λ r. r ++ f x ∷ []) (map_reverse f xs)
+    ∙ sym (reverse-append (f x ∷ []) (map f xs))
+
 pub take_rows : {A B : Type 0} (f : A → B) (n : ℕ) (xs : List (Option A)) → map (option_map f) (take n xs) ≡ take n (map (option_map f) xs)
 take_rows f n xs = take_map (option_map f) n xs
 
 pub reverse_rows : {A B : Type 0} (f : A → B) (xs : List (Option A)) → map (option_map f) (reverse xs) ≡ reverse (map (option_map f) xs)
-reverse_rows f xs = map-reverse (option_map f) xs
+reverse_rows f xs = map_reverse (option_map f) xs
 
 pub extend_rows : {A B : Type 0} (f : A → B) (xs ys : List (Option A)) (a b : ℕ) → map (option_map f) (xs ++ slice_range ys a b) ≡ map (option_map f) xs ++ slice_range (map (option_map f) ys) a b
 extend_rows f xs ys a b =

@@ -1,5 +1,5 @@
--- What the numbers of rows that fit lie within.
-use Rattle.std.specs.Prelude.{ℕ, ℤ, pos, ◌^◌, Bool, true, false}
+-- What packed rows that fit lie within.
+use Rattle.std.specs.Prelude.{ℕ, ℤ, pos, ◌^◌, Bool, true, false, ◌&&◌, int_le, nat_lt, unsigned_abs, Option, Some, None}
 use Rattle.vx_rows.specs.Fits.{ptype_min, ptype_max}
 use Rattle.vx_rows.specs.declared.dtype.DType.{DType, out-DType}
 use Rattle.vx_rows.specs.declared.dtype.DType.TheOpen.{DType-F}
@@ -27,3 +27,14 @@ layer_bound t = 0
 -- what the size of a decimal that fits lies below
 abbrev pub decimal_bound : DType → ℕ
 decimal_bound t = layer_bound (out-DType t)
+
+-- a null by a Bool, and a value by a test
+abbrev pub null_or : {A : Type 0} → Bool → (A → Bool) → Option A → Bool
+null_or null test None = null
+null_or null test (Some x) = test x
+
+abbrev pub is_within : ℤ × ℤ → ℤ → Bool
+is_within range z = int_le range.0 z && int_le z range.1
+
+abbrev pub is_below : ℕ → ℤ → Bool
+is_below bound z = nat_lt (unsigned_abs z) bound

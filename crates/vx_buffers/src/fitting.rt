@@ -1,9 +1,10 @@
 //! Whether packed rows fit a type, in one pass over what is packed.
 ghost use Rattle.std.specs.Prelude.{◌≡◌};
 ghost use Rattle.vx_rows.specs.Fits.{rows_fit};
-ghost use Rattle.vx_buffers.specs.Fits.{number_range, decimal_bound, is_bool};
+ghost use Rattle.vx_buffers.specs.Fits.{number_range, decimal_bound, is_bool, null_or, is_within, is_below};
 ghost use Rattle.vx_buffers.specs.Stores.{rows_of, bool_rows, int_rows, long_rows, decimal_rows};
 
+use crate::single::{wide_int, wide_long};
 use crate::slots::Slots;
 use crate::store::Store;
 use vx_rows::DType;
@@ -22,76 +23,83 @@ pub(crate) fn store_fits(store: &Store, dtype: &DType) -> bool
     }
 }
 
-#[tactic(auto, using(crate::proofs::Fits::bool_fits))]
 fn bools_fit(truths: &Slots<bool>, dtype: &DType) -> bool
     ensures { result ≡ rows_fit dtype.now (bool_rows truths.now) }
 {
     let null_fits = dtype.nullability().is_nullable();
     let value_fits = is_bool(dtype);
     for i in 0..truths.len() {
-        let fits = match truths.get(i) {
-            None => null_fits,
-            Some(_) => value_fits,
-        };
-        if !fits {
+        if !truth_fits(truths.get(i), null_fits, value_fits) {
             return false;
         }
     }
     true
 }
 
-#[tactic(auto, using(crate::proofs::Fits::int_fits))]
 fn ints_fit(numbers: &Slots<i64>, dtype: &DType) -> bool
     ensures { result ≡ rows_fit dtype.now (int_rows numbers.now) }
 {
     let null_fits = dtype.nullability().is_nullable();
-    let (low, high) = number_range(dtype);
+    let range = number_range(dtype);
     for i in 0..numbers.len() {
-        let fits = match numbers.get(i) {
-            None => null_fits,
-            Some(number) => low <= number as i128 && number as i128 <= high,
-        };
-        if !fits {
+        if !number_fits(wide_int(numbers.get(i)), null_fits, range) {
             return false;
         }
     }
     true
 }
 
-#[tactic(auto, using(crate::proofs::Fits::long_fits))]
 fn longs_fit(numbers: &Slots<u64>, dtype: &DType) -> bool
     ensures { result ≡ rows_fit dtype.now (long_rows numbers.now) }
 {
     let null_fits = dtype.nullability().is_nullable();
-    let (low, high) = number_range(dtype);
+    let range = number_range(dtype);
     for i in 0..numbers.len() {
-        let fits = match numbers.get(i) {
-            None => null_fits,
-            Some(number) => low <= number as i128 && number as i128 <= high,
-        };
-        if !fits {
+        if !number_fits(wide_long(numbers.get(i)), null_fits, range) {
             return false;
         }
     }
     true
 }
 
-#[tactic(auto, using(crate::proofs::Fits::decimal_fits))]
 fn decimals_fit(unscaled: &Slots<i128>, dtype: &DType) -> bool
     ensures { result ≡ rows_fit dtype.now (decimal_rows unscaled.now) }
 {
     let null_fits = dtype.nullability().is_nullable();
     let bound = decimal_bound(dtype);
     for i in 0..unscaled.len() {
-        let fits = match unscaled.get(i) {
-            None => null_fits,
-            Some(number) => number.unsigned_abs() < bound,
-        };
-        if !fits {
+        if !decimal_fits(unscaled.get(i), null_fits, bound) {
             return false;
         }
     }
     true
+}
+
+fn truth_fits(truth: Option<bool>, null_fits: bool, value_fits: bool) -> bool
+    ensures { result ≡ null_or null_fits (λ _. value_fits) truth }
+{
+    match truth {
+        None => null_fits,
+        Some(_) => value_fits,
+    }
+}
+
+fn number_fits(number: Option<i128>, null_fits: bool, range: (i128, i128)) -> bool
+    ensures { result ≡ null_or null_fits (is_within range) number }
+{
+    match number {
+        None => null_fits,
+        Some(number) => range.0 <= number && number <= range.1,
+    }
+}
+
+fn decimal_fits(unscaled: Option<i128>, null_fits: bool, bound: u128) -> bool
+    ensures { result ≡ null_or null_fits (is_below bound) unscaled }
+{
+    match unscaled {
+        None => null_fits,
+        Some(unscaled) => unscaled.unsigned_abs() < bound,
+    }
 }
 
 /// Whether a boolean fits.

@@ -1,5 +1,5 @@
 //! Where the rows of a buffer stand.
-ghost use Rattle.std.specs.Prelude.{◌≡◌, ◌<◌, ◌≤◌, ◌++◌, ◌-◌, pos, length, take, reverse, get_or, Some, None, is_some, IfOk, OnOk, OnErr, IsOk, IsOkUnless, IsFalse};
+ghost use Rattle.std.specs.Prelude.{◌≡◌, ◌<◌, ◌≤◌, [], length, take, reverse, get_or, Some, None, is_some, IfOk, OnOk, OnErr, IsOk, IsOkUnless, IsFalse};
 ghost use Rattle.std.specs.List.{slice_range};
 ghost use Rattle.vx_rows.specs.Order.{row_cmp};
 ghost use Rattle.vx_rows.specs.Sizes.{row_takes_memory};
@@ -154,7 +154,7 @@ impl Store {
         ensures err { IsOkUnless result ColumnError.OutOfMemory }
     {
         let mut copies = Seq::new(alloc);
-        for i in range {
+        for i in range.start..range.end {
             copies.push(self.row(alloc, i)?)?;
         }
         Ok(copies)
