@@ -60,6 +60,10 @@ decimal_fits t z = ap (λ v. value_fits v t) (sym (rolls-Decimal z)) ∙ by_laye
 pub long_fits : (t : DType) (n : ℕ) → value_fits (long_value n) t ≡ is_within (number_range t) (pos n)
 long_fits t n = int_fits t (pos n)
 
+pub null_or_map : {A B : Type 0} (null : Bool) (test : B → Bool) (f : A → B) (x : Option A) → null_or null test (option_map f x) ≡ null_or null (λ a. test (f a)) x
+null_or_map null test f None = refl
+null_or_map null test f (Some x) = refl
+
 -- a walk over a list whose elements are tested one by one
 module _ {X : Type 0} (p : X → Bool) where
   stops_at : (xs : List X) (i : ℕ) (d : X) → i < length xs → p (get_or xs i d) ≡ false → list_all p (drop i xs) ≡ false
@@ -95,15 +99,15 @@ module _ (t : DType) {A : Type 0} (f : A → Value) (test : A → Bool) (same : 
 
   module _ (ns : List (Option A)) (i : ℕ) (so_far : rows_fit t (rows ns) ≡ rows_fit t (drop i (rows ns))) where
     pub misfit_at : (x : Option A) (fits : Bool) → i < length ns → x ≡ get_or ns i None → fits ≡ null_or null test x → fits ≡ false → false ≡ rows_fit t (rows ns)
-    misfit_at x fits h e k no =
+    misfit_at x fits h e k misfit =
         let inside : i < length (rows ns) = omega (arith, h, length_rows ns) in
-        sym (so_far ∙ stops_at (row_fits t) (rows ns) i None inside (at ns i x fits e k ∙ no))
+        sym (so_far ∙ stops_at (row_fits t) (rows ns) i None inside (at ns i x fits e k ∙ misfit))
 
     pub fit_at : (x : Option A) (fits : Bool) → i < length ns → x ≡ get_or ns i None → fits ≡ null_or null test x → fits ≡ true → rows_fit t (rows ns) ≡ rows_fit t (drop (i + 1) (rows ns))
-    fit_at x fits h e k yes =
+    fit_at x fits h e k fit =
         let inside : i < length (rows ns) = omega (arith, h, length_rows ns) in
         let next : suc i ≡ i + 1 = omega arith in
-        so_far ∙ goes_past (row_fits t) (rows ns) i None inside (at ns i x fits e k ∙ yes) ∙ ap (λ k. rows_fit t (drop k (rows ns))) next
+        so_far ∙ goes_past (row_fits t) (rows ns) i None inside (at ns i x fits e k ∙ fit) ∙ ap (λ k. rows_fit t (drop k (rows ns))) next
 
     pub all_fit : length ns ≤ i → true ≡ rows_fit t (rows ns)
     all_fit h =
