@@ -6,10 +6,7 @@ use std::ops::Range;
 
 pub enum Column {
     Flat(Flat),
-    Constant {
-        row: Flat,
-        len: usize,
-    },
+    Constant { row: Flat, len: usize },
     Chunked(Chunked),
     Excepted(Excepted),
     Interleaved(Interleaved),

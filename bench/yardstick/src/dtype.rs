@@ -25,6 +25,11 @@ pub struct DType {
 }
 
 impl DType {
+    /// Unsigned integers of so many bits, without nulls.
+    pub fn index(bits: u32) -> DType {
+        DType { kind: Kind::Unsigned(bits), nullable: false }
+    }
+
     pub fn is_integer(self) -> bool {
         matches!(self.kind, Kind::Unsigned(_) | Kind::Signed(_))
     }

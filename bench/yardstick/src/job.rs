@@ -2,50 +2,28 @@
 
 use crate::dtype::DType;
 use crate::flat::Flat;
+use crate::index::Index;
+use crate::layout::Layout;
 use serde_json::{Map, Value};
 
 pub enum Part {
     Flat(Flat),
-    Constant {
-        row: Flat,
-        len: usize,
-    },
-    Chunked {
-        dtype: DType,
-        chunks: Vec<Part>,
-    },
-    Lanes(Box<Lanes>),
-    Excepted(Box<Excepted>),
-    Interleaved {
-        values: Vec<Part>,
-        arrays: Flat,
-        rows: Flat,
-    },
-}
-
-/// Rows with exceptions that are kept by lane.
-pub struct Lanes {
-    pub inner: Part,
-    pub n_lanes: usize,
-    pub offset: usize,
-    pub lane_offsets: Flat,
-    pub indices: Flat,
-    pub values: Flat,
-}
-
-/// Rows with exceptions that are kept by row.
-pub struct Excepted {
-    pub base: Part,
-    pub offset: usize,
-    pub indices: Flat,
-    pub values: Part,
-    pub chunk_offsets: Option<Flat>,
+    Constant { row: Flat, len: usize },
+    Chunked { dtype: DType, chunks: Vec<Part> },
+    Lanes { inner: Box<Part>, layout: Layout },
+    Excepted { base: Box<Part>, index: Index, values: Box<Part> },
+    Interleaved { values: Vec<Part>, arrays: Flat, rows: Flat },
 }
 
 pub enum Step {
-    Slice { start: usize, end: usize },
+    Slice {
+        start: usize,
+        end: usize,
+    },
     /// Whether they are kept makes no difference: the column is.
-    Points { points: Vec<usize> },
+    Points {
+        points: Vec<usize>,
+    },
 }
 
 pub struct Job {
@@ -107,14 +85,15 @@ fn constant(json: &Value) -> Option<Part> {
 
 fn lanes(json: &Value) -> Option<Part> {
     let map = object(json, 6)?;
-    Some(Part::Lanes(Box::new(Lanes {
-        inner: part(map.get("lanes")?)?,
+    let inner = Box::new(part(map.get("lanes")?)?);
+    let layout = Layout {
         n_lanes: whole(map.get("n_lanes")?)?,
         offset: whole(map.get("offset")?)?,
         lane_offsets: flat(map.get("lane_offsets")?)?,
         indices: flat(map.get("indices")?)?,
         values: flat(map.get("values")?)?,
-    })))
+    };
+    Some(Part::Lanes { inner, layout })
 }
 
 fn excepted(json: &Value) -> Option<Part> {
@@ -123,13 +102,11 @@ fn excepted(json: &Value) -> Option<Part> {
         Value::Null => None,
         offsets => Some(flat(offsets)?),
     };
-    Some(Part::Excepted(Box::new(Excepted {
-        base: part(map.get("excepted")?)?,
-        offset: whole(map.get("offset")?)?,
-        indices: flat(map.get("indices")?)?,
-        values: part(map.get("values")?)?,
-        chunk_offsets,
-    })))
+    let index =
+        Index { offset: whole(map.get("offset")?)?, indices: flat(map.get("indices")?)?, chunk_offsets };
+    let base = Box::new(part(map.get("excepted")?)?);
+    let values = Box::new(part(map.get("values")?)?);
+    Some(Part::Excepted { base, index, values })
 }
 
 fn interleaved(json: &Value) -> Option<Part> {

@@ -4,10 +4,13 @@
 mod column;
 mod dtype;
 mod flat;
+mod index;
 mod job;
+mod layout;
 mod open;
 mod plan;
 mod refusal;
+mod rules;
 
 use std::io::{self, BufWriter, Read, Write};
 use std::process::ExitCode;

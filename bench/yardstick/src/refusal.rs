@@ -14,10 +14,16 @@ impl Refusal {
     pub fn to_json(&self) -> Value {
         match self {
             Refusal::UnknownColumn => json!({"error": "UnknownColumn", "number": 0}),
-            Refusal::Malformed { at, rule } => json!({"error": "Malformed", "at": at, "rule": rule}),
+            Refusal::Malformed { at, rule } => {
+                json!({"error": "Malformed", "at": at, "rule": rule})
+            }
             Refusal::Unsupported { at } => json!({"error": "Unsupported", "at": at}),
-            Refusal::BadRange { start, end } => json!({"error": "BadRange", "start": start, "end": end}),
-            Refusal::OutOfBounds { index, len } => json!({"error": "OutOfBounds", "index": index, "len": len}),
+            Refusal::BadRange { start, end } => {
+                json!({"error": "BadRange", "start": start, "end": end})
+            }
+            Refusal::OutOfBounds { index, len } => {
+                json!({"error": "OutOfBounds", "index": index, "len": len})
+            }
         }
     }
 }
