@@ -249,14 +249,18 @@ def words():
     return parser.parse_args()
 
 
+def built():
+    """The program, built where it has to be built."""
+    # Without input there is no job, which is status 3.
+    status = subprocess.run([TOP / "vxcol", "run"], stdin=subprocess.DEVNULL, check=False).returncode
+    if status != 3:
+        sys.exit(f"bench: vxcol ended with status {status} on no input")
+    return str(TOP / "crates" / "vxcol" / "out" / "vxcol")
+
+
 def main():
     given = words()
-    program = given.program or str(TOP / "crates" / "vxcol" / "out" / "vxcol")
-    if not given.program:
-        # Builds it where it has to be built. Without input there is no job, which is status 3.
-        built = subprocess.run([TOP / "vxcol", "run"], stdin=subprocess.DEVNULL, check=False).returncode
-        if built != 3:
-            sys.exit(f"bench: vxcol ended with status {built} on no input")
+    program = given.program or built()
     sizes = [int(word) for word in given.sizes.split(",")]
     print(f"cores: {os.cpu_count()}, seed: {given.seed}, fastest of {given.runs} runs", flush=True)
     is_good = True

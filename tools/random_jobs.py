@@ -1,13 +1,17 @@
 #!/usr/bin/env python3
 """Compares replies of `vxcol` to random jobs with replies that this script works out by itself.
 
-    python3 tools/random_jobs.py [--seed N] [--jobs N] [--program PATH]
+    python3 tools/random_jobs.py [--seed N] [--jobs N] [--program PATH | --tried]
 
 Each job has up to three part trees, well formed or with one thing changed that may break a rule, and a plan of slices and
-reads; one in twenty is changed in its form, so that it is no job. The script knows the rules of parts, the first fault and the rows of a part from docs/FORMAT.md and docs/DEFINITIONS.md
-alone: a row is looked up by recursion, each rule is one line, and nothing is searched or shared. Where several errors are
-true of a step, each of them is right. The script prints each job whose reply is wrong, and how often each kind of reply was
-met; it ends with 1 where a reply was wrong. The same seed makes the same jobs.
+reads; one in twenty is changed in its form, so that it is no job. The script knows the rules of parts, the first fault and the
+rows of a part from docs/FORMAT.md alone: a row is looked up by recursion, each rule is one line, and nothing is searched or
+shared. Where several errors are true of a step, each of them is right. The script prints each job whose reply is wrong, and how
+often each kind of reply was met; it ends with 1 where a reply was wrong. The same seed makes the same jobs.
+
+PROGRAM is the built vxcol; another that takes the same words may be named, as that of bench/yardstick. With --tried nothing has to
+be built or proved: all jobs go to the driver of worked examples of jobs, in one run of `rt try`, which takes a minute and
+has the time for some 1,000 of them.
 """
 import argparse
 import collections
@@ -16,6 +20,7 @@ import pathlib
 import random
 import subprocess
 import sys
+import tempfile
 
 ROOT = pathlib.Path(__file__).resolve().parent.parent
 LAST = 2**64 - 1  # the greatest length
@@ -472,18 +477,35 @@ def line(value):
     return json.dumps(value, sort_keys=True, separators=(",", ":"), ensure_ascii=False) + "\n"
 
 
-def wrong_reply(program, job, is_job):
-    """What is wrong with the program's reply, or none; and the name of the reply."""
-    if is_job:
-        right = replies(job)
-        name = right[0].get("rule", right[0].get("error", "a page"))
-        status, right = 1 if "error" in right[0] else 0, list(map(line, right))
-    else:
-        name, status, right = "no job", 3, [""]
-    done = subprocess.run([program, "run"], input=json.dumps(job).encode(), capture_output=True)
-    if done.returncode == status and done.stdout.decode() in right:
-        return None, name
-    return f"status {done.returncode}: {done.stdout.decode()}right: status {status}: {right[0]}", name
+def right_replies(job, is_job):
+    """The name of the reply, the status and the lines that are right."""
+    if not is_job:
+        return "no job", 3, [""]
+    right = replies(job)
+    name = right[0].get("rule", right[0].get("error", "a page"))
+    return name, 1 if "error" in right[0] else 0, list(map(line, right))
+
+
+def run_each(program, jobs):
+    """Yields the status and the text that the program answers each job with."""
+    for job in jobs:
+        done = subprocess.run([program, "run"], input=json.dumps(job).encode(), capture_output=True)
+        yield done.returncode, done.stdout.decode()
+
+
+def run_tried(jobs):
+    """The same of the driver of worked examples, which tells what it got where that isn't what is wanted, as it never is here."""
+    cases = "\n".join(f"{number}\n{json.dumps(job)}\n= none\n" for number, job in enumerate(jobs))
+    with tempfile.TemporaryFile() as source:
+        source.write(cases.encode())
+        source.seek(0)
+        done = subprocess.run(["rt", "try"], cwd=ROOT / "crates" / "vx_job_cases", stdin=source, capture_output=True)
+    got = [told for told in done.stdout.decode().split("\n") if told.startswith("  got    ")]
+    if len(got) != len(jobs):
+        sys.exit(f"{len(got)} answers to {len(jobs)} jobs\n{done.stderr.decode()}")
+    for told in got:
+        status, _, text = told[len("  got    "):].rpartition(" | reads ")[0].partition(" ")
+        yield int(status), text and text + "\n"
 
 
 def main():
@@ -491,18 +513,24 @@ def main():
     parser.add_argument("--seed", type=int, default=1)
     parser.add_argument("--jobs", type=int, default=2000)
     parser.add_argument("--program", default=ROOT / "crates" / "vxcol" / "out" / "vxcol")
+    parser.add_argument("--tried", action="store_true", help="run the code unproved, by rt try")
     words = parser.parse_args()
-    met, wrong = collections.Counter(), 0
+    asked = []
     for number in range(words.jobs):
         rng = random.Random(f"{words.seed} {number}")
         job, is_job = random_job(rng), rng.random() < 0.95
         if not is_job:
             broken_form(rng, job)
-        said, name = wrong_reply(words.program, job, is_job)
+        asked.append((job, is_job))
+    jobs = [job for job, _ in asked]
+    met, wrong = collections.Counter(), 0
+    got = run_tried(jobs) if words.tried else run_each(words.program, jobs)
+    for number, ((job, is_job), (status, text)) in enumerate(zip(asked, got)):
+        name, right_status, right = right_replies(job, is_job)
         met[name] += 1
-        if said:
+        if status != right_status or text not in right:
             wrong += 1
-            print(f"job {number}: {line(job)}{said}")
+            print(f"job {number}: {line(job)}status {status}: {text}right: status {right_status}: {right[0]}")
     print(", ".join(f"{name} {count}" for name, count in met.most_common()))
     print(f"{words.jobs} jobs, {wrong} wrong replies")
     sys.exit(1 if wrong else 0)

@@ -70,11 +70,23 @@ fn text_of(alloc: Global, text: &str) -> io::Result<Text> {
     Text::from_str(alloc, text).map_err(|_| io::Error::other("a text takes too much memory"))
 }
 
-/// A type and rows, as `["u32",[1,5,9]]`.
+/// A type and rows, as `["u32",[1,5,9]]`, or a type, a row and how often it stands, as `["u16",7,1000]`.
 pub fn column_of(alloc: Global, value: &Value) -> io::Result<FlatColumn> {
     let Some(dtype) = value.get(0).and_then(Value::as_str).and_then(dtype_of) else {
         return Err(io::Error::other("a column has no type"));
     };
+    match value.get(2).and_then(Value::as_u64) {
+        Some(len) => constant_of(alloc, dtype, value, len as usize),
+        None => flat_of(alloc, dtype, value),
+    }
+}
+
+fn constant_of(alloc: Global, dtype: DType, value: &Value, len: usize) -> io::Result<FlatColumn> {
+    let row = row_of(alloc, value.get(1).unwrap_or(value))?;
+    FlatColumn::constant(alloc, dtype, row, len).map_err(|_| io::Error::other("a row doesn't fit"))
+}
+
+fn flat_of(alloc: Global, dtype: DType, value: &Value) -> io::Result<FlatColumn> {
     let Some(values) = value.get(1).and_then(Value::as_array) else {
         return Err(io::Error::other("a column has no rows"));
     };

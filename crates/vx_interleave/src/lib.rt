@@ -4,8 +4,6 @@
 pub mod data;
 mod rules;
 pub mod selectors;
-#[cfg(test)]
-mod tests;
 
 pub use data::InterleaveData;
 pub use selectors::{Selectors, check_selectors};

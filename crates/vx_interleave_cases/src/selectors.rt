@@ -3,6 +3,7 @@ ghost use Rattle.std.specs.Prelude.{◌≤◌, IsTrue};
 ghost use Rattle.vx_interleave.specs.Selections.{len_of};
 
 use std::alloc::{AllocError, Global};
+use std::hash::{DefaultHasher, Hash, Hasher};
 use vx_base::{Ledger, Res, Steps};
 use vx_cases::{Asked, Call};
 use vx_interleave::{InterleaveData, Selectors};
@@ -66,6 +67,22 @@ fn data_text(alloc: Global, num_values: usize) -> Res<String> {
     Ok(format!(in alloc; "{data}")?)
 }
 
+fn hash_of(data: &InterleaveData) -> u64 {
+    let mut state = DefaultHasher::new();
+    data.hash(&mut state);
+    state.finish()
+}
+
+/// Whether columns interleaved of so many values say the same of themselves, and a copy too; where they do, whether their hashes
+/// are the same.
+fn same_data(alloc: Global, num_values: usize, other: usize) -> Res<String> {
+    let data = InterleaveData { num_values };
+    let other = InterleaveData { num_values: other };
+    let copy = other.clone()?;
+    let same = data == copy;
+    Ok(format!(in alloc; "{same}, hashes {}", same && hash_of(&data) == hash_of(&other))?)
+}
+
 impl Asked for AskedSelectors {
     fn shape(&self, alloc: Global) -> Result<String, AllocError> {
         format!(in alloc;
@@ -106,6 +123,7 @@ impl Asked for AskedSelectors {
         match call.name {
             "shape" => Ok(self.shape(alloc)?),
             "data" => data_text(alloc, call.number(1)),
+            "same" => same_data(alloc, call.number(1), call.number(2)),
             "pair" => pair(alloc, &self.selectors, call.number(1), steps),
             "pairs" => pairs(alloc, &self.selectors, steps),
             _ => not_allowed(alloc),

@@ -4,8 +4,6 @@
 pub mod data;
 pub mod lanes;
 pub mod layout;
-#[cfg(test)]
-mod tests;
 
 pub use data::{PatchedData, PatchedSlots};
 pub use lanes::Lanes;

@@ -4,11 +4,12 @@ ghost use Rattle.vx_lanes.specs.Layouts.{chunks_of};
 
 use crate::reading::rows_of;
 use std::alloc::{AllocError, Global};
+use std::hash::{DefaultHasher, Hash, Hasher};
 use vx_base::{ColumnError, Ledger, Res, Steps};
 use vx_cases::columns::rows_text;
 use vx_cases::{Asked, Call};
 use vx_lanes::layout::CHUNK;
-use vx_lanes::{Lanes, PatchedData};
+use vx_lanes::{Lanes, PatchedData, PatchedSlots};
 
 /// A layout that calls ask.
 #[derive(Drop)]
@@ -151,6 +152,35 @@ fn data_text(alloc: Global, lanes: &Lanes) -> Result<String, AllocError> {
     format!(in alloc; "{data}")
 }
 
+fn hash_of(data: &PatchedData) -> u64 {
+    let mut state = DefaultHasher::new();
+    data.hash(&mut state);
+    state.finish()
+}
+
+/// Whether what the layout says of itself is the same as that of so many lanes and such an offset, and a copy of it too; where
+/// it is, whether their hashes are the same.
+fn same_data(alloc: Global, lanes: &Lanes, call: &Call<'_>) -> Result<String, AllocError> {
+    let data = PatchedData {
+        n_lanes: lanes.n_lanes(),
+        offset: lanes.offset(),
+    };
+    let other = PatchedData {
+        n_lanes: call.number(1),
+        offset: call.number(2),
+    };
+    let copy = other.clone()?;
+    let same = data == copy;
+    format!(in alloc; "{same}, hashes {}", same && hash_of(&data) == hash_of(&other))
+}
+
+/// The numbers of the slots of a patched array.
+fn slots_text(alloc: Global) -> Result<String, AllocError> {
+    let below = (PatchedSlots::INNER, PatchedSlots::LANE_OFFSETS);
+    let exceptions = (PatchedSlots::PATCH_INDICES, PatchedSlots::PATCH_VALUES);
+    format!(in alloc; "{} {} {} {}", below.0, below.1, exceptions.0, exceptions.1)
+}
+
 impl Asked for AskedLanes {
     fn shape(&self, alloc: Global) -> Result<String, AllocError> {
         format!(in alloc;
@@ -197,6 +227,8 @@ impl Asked for AskedLanes {
         Ok(match call.name {
             "shape" => self.shape(alloc)?,
             "data" => data_text(alloc, &self.lanes)?,
+            "same" => same_data(alloc, &self.lanes, call)?,
+            "slots" => slots_text(alloc)?,
             "lane" => lane_range(alloc, &self.lanes, call, steps)?,
             "find" => find(alloc, &self.lanes, call.number(1), steps)?,
             "found" => found(alloc, &self.lanes, steps)?,

@@ -6,16 +6,16 @@ use crate::lanes::AskedLanes;
 use serde_json::Value;
 use std::alloc::Global;
 use std::io;
-use vx_base::{DType, FlatColumn, NoLedger, Res, Row, Steps};
+use vx_base::{DType, NoLedger, Res, Row, Steps};
 use vx_cases::columns::{column_of, dtype_of, member, number, row_of};
 use vx_lanes::Lanes;
 
 /// The layout that a case says.
 pub(crate) fn lanes_of(rt: &HostRuntime, value: &Value) -> io::Result<Res<AskedLanes>> {
     let alloc = rt.alloc();
-    let lane_offsets = column(alloc, member(value, "lane_offsets")?)?;
-    let indices = column(alloc, member(value, "indices")?)?;
-    let values = column(alloc, member(value, "values")?)?;
+    let lane_offsets = column_of(alloc, member(value, "lane_offsets")?)?;
+    let indices = column_of(alloc, member(value, "indices")?)?;
+    let values = column_of(alloc, member(value, "values")?)?;
     let len = number(value, "len")?;
     let n_lanes = number(value, "n_lanes")?;
     let offset = number(value, "offset")?;
@@ -50,20 +50,6 @@ fn is_integer(dtype: &DType) -> bool
     ensures { result ≡ numbers.is_integer dtype.now }
 {
     matches!(dtype, DType::Primitive(_, _))
-}
-
-/// A type and rows, or a type, a row and how often it stands.
-fn column(alloc: Global, value: &Value) -> io::Result<FlatColumn> {
-    match value.get(2).and_then(Value::as_u64) {
-        Some(len) => constant(alloc, value, len as usize),
-        None => column_of(alloc, value),
-    }
-}
-
-fn constant(alloc: Global, value: &Value, len: usize) -> io::Result<FlatColumn> {
-    let dtype = named_dtype(value.get(0).and_then(Value::as_str).unwrap_or("no type"))?;
-    let row = row_of(alloc, value.get(1).unwrap_or(value))?;
-    FlatColumn::constant(alloc, dtype, row, len).map_err(|_| io::Error::other("a row doesn't fit"))
 }
 
 /// The rows of a list; none where it is no list.

@@ -12,8 +12,6 @@ pub mod readers;
 pub mod result;
 pub mod search;
 pub mod slice;
-#[cfg(test)]
-mod tests;
 
 pub use bound::search_bound;
 pub use gallop::{gallop_lower_bound, partition_point_counted};

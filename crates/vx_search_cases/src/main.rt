@@ -5,7 +5,7 @@
 //! - `{"over":O,"values":F,"calls":[C]}` asks a searcher over values (`searchers.rt`);
 //! - `{"calls":[C]}` asks what needs no searcher (`alone.rt`).
 //!
-//! F is a type and rows, as `["u32",[1,5,9]]`, and O says what they are searched through: `slice` for a slice by its
+//! F is a type and rows, as `["u32",[1,5,9]]`, or a type, a row and how often it stands, and O says what they are searched through: `slice` for a slice by its
 //! elements' own order, `integers`, `reader` and `flat_reader` for the searcher over integers as it is made of a slice, of
 //! a reader of a slice and of a reader of a column, and `flat` for the one that is made of a column.
 #![tactic(auto)]

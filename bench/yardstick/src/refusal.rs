@@ -1,0 +1,29 @@
+//! Why a job is refused.
+
+use serde_json::{json, Value};
+
+pub enum Refusal {
+    UnknownColumn,
+    Malformed { at: Vec<usize>, rule: &'static str },
+    Unsupported { at: Vec<usize> },
+    BadRange { start: usize, end: usize },
+    OutOfBounds { index: usize, len: usize },
+}
+
+impl Refusal {
+    pub fn to_json(&self) -> Value {
+        match self {
+            Refusal::UnknownColumn => json!({"error": "UnknownColumn", "number": 0}),
+            Refusal::Malformed { at, rule } => {
+                json!({"error": "Malformed", "at": at, "rule": rule})
+            }
+            Refusal::Unsupported { at } => json!({"error": "Unsupported", "at": at}),
+            Refusal::BadRange { start, end } => {
+                json!({"error": "BadRange", "start": start, "end": end})
+            }
+            Refusal::OutOfBounds { index, len } => {
+                json!({"error": "OutOfBounds", "index": index, "len": len})
+            }
+        }
+    }
+}
