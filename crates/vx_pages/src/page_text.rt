@@ -6,7 +6,7 @@ ghost use Rattle.vx_pages.specs.PageJson as spec;
 ghost use Rattle.vx_pages.specs.Tokens.{tokens_of};
 
 use crate::parts::open;
-use crate::row_text::write_rows;
+use crate::row_text::{write_buffer, write_rows};
 use crate::type_text::write_type;
 use json::Writer;
 use std::alloc::{AllocError, Global};
@@ -47,7 +47,7 @@ pub(crate) fn write_page(alloc: Global, out: &mut Writer, page: &Page) -> Result
     open(out, "answers")?;
     write_answers(alloc, out, page.answers())?;
     out.key("rows")?;
-    write_rows(alloc, out, page.rows())?;
+    write_buffer(alloc, out, page.rows())?;
     out.key("type")?;
     write_type(alloc, out, page.dtype())?;
     out.end_object()

@@ -3,11 +3,13 @@ ghost use Rattle.std.specs.Prelude.{◌≡◌, ◌++◌, OnOk};
 ghost use Rattle.std.specs.Fmt.{signed_decimal};
 ghost use Rattle.hex.specs.Hex.{encode_lower};
 ghost use Rattle.serde_json.specs.Data.{string};
+ghost use Rattle.vx_buffers.specs.Refs.{row_of_ref};
 ghost use Rattle.vx_pages.specs.RowJson as spec;
 ghost use Rattle.vx_pages.specs.Tokens.{tokens_of};
 
 use json::Writer;
 use std::alloc::{AllocError, Global};
+use vx_buffers::{RowBuffer, RowRef};
 use vx_rows::{Row, Value};
 
 fn write_int(out: &mut Writer, z: i128) -> Result<(), AllocError>
@@ -71,6 +73,40 @@ pub(crate) fn write_rows(alloc: Global, out: &mut Writer, rows: &[Row]) -> Resul
             None => out.null()?,
             Some(value) => write_value(alloc, out, value)?,
         }
+    }
+    out.end_array()
+}
+
+/// Writes a row that is lent.
+fn write_lent(alloc: Global, out: &mut Writer, row: RowRef<'_>) -> Result<(), AllocError>
+    ensures ok { OnOk result
+        (out.new.tokens ≡ out.old.tokens ++ tokens_of (spec.row_json (row_of_ref row.entry))) }
+    ensures before { out.new.before ≡ out.old.before }
+{
+    match row {
+        RowRef::Null => out.null(),
+        RowRef::Bool(truth) => out.boolean(truth),
+        RowRef::Int(number) => write_int(out, number),
+        RowRef::Decimal(number) => write_decimal(out, number),
+        RowRef::Utf8(text) => out.string(text),
+        RowRef::Binary(bytes) => write_binary(alloc, out, bytes),
+        RowRef::Value(value) => write_value(alloc, out, value),
+    }
+}
+
+/// Writes the list of a buffer's rows, none of which is copied.
+pub(crate) fn write_buffer(
+    alloc: Global,
+    out: &mut Writer,
+    rows: &RowBuffer,
+) -> Result<(), AllocError>
+    ensures ok { OnOk result
+        (out.new.tokens ≡ out.old.tokens ++ tokens_of (spec.rows_json rows.now)) }
+    ensures before { out.new.before ≡ out.old.before }
+{
+    out.begin_array()?;
+    for i in 0..rows.len() {
+        write_lent(alloc, out, rows.get(i))?;
     }
     out.end_array()
 }

@@ -22,7 +22,7 @@ use crate::types::dtype_of;
 use serde_json::Value;
 use std::alloc::Global;
 use std::io;
-use vx_base::{Res, Seq};
+use vx_base::{Res, RowBuffer, Seq};
 use vx_cases::{Answer, Answers, run_cases};
 use vx_job::{Answer as Answered, Page};
 use vx_pages::{page_line, refusal_line};
@@ -60,6 +60,7 @@ fn page_of(alloc: Global, case: &Value) -> Res<Page> {
     let answers = answers_of(alloc, case.get("answers").unwrap_or(case))?;
     let dtype = dtype_of(alloc, case.get("type").unwrap_or(case))?;
     let rows = rows_of(alloc, case.get("rows").unwrap_or(case))?;
+    let rows = RowBuffer::from_rows(alloc, &dtype, rows)?;
     Ok(Page::new(answers, dtype, rows))
 }
 
