@@ -13,7 +13,7 @@ pub fn all_valid(column: &FlatColumn) -> bool
     ensures { result ≡ spec.all_valid column.now.rows }
 {
     for i in 0..column.len() {
-        if column.row(i).is_none() {
+        if !column.is_valid(i) {
             return false;
         }
     }

@@ -12,7 +12,8 @@ use std::alloc::Global;
 use std::cmp::Ordering;
 use std::marker::Model;
 use std::ops::Range;
-use vx_rows::copy::{copy_row, copy_rows, repeat_row};
+use vx_buffers::RowBuffer;
+use vx_rows::copy::{copy_row, repeat_row};
 use vx_rows::fits::{row_fits, rows_fit};
 use vx_rows::{
     ColumnError, DType, Nullability, PType, Path, Res, Row, Rule, Seq, Shared, Value, order,
@@ -21,7 +22,7 @@ use vx_rows::{
 /// Where the rows stand.
 #[derive(Drop)]
 enum Source {
-    Rows(Shared<Seq<Row>>),
+    Rows(Shared<RowBuffer>),
     Constant(Shared<Row>),
 }
 
@@ -88,6 +89,17 @@ impl FlatColumn {
                 rule: Rule::RowType,
             });
         }
+        let packed = RowBuffer::from_rows(alloc, &dtype, rows)?;
+        FlatColumn::from_buffer(alloc, dtype, packed)
+    }
+
+    /// A column of a buffer's rows, which are not copied. `RowBuffer::fits` tests whether they fit.
+    pub fn from_buffer(alloc: Global, dtype: DType, rows: RowBuffer) -> Res<FlatColumn>
+        requires { IsTrue (rows_fit dtype rows) }
+        ensures ok { IfOk result (λ c. c ≡ flat dtype rows) }
+        ensures fits { IfOk result IsFlat }
+        ensures err { IsOkUnless result ColumnError.OutOfMemory }
+    {
         let end = rows.len();
         Ok(FlatColumn {
             dtype,
@@ -125,12 +137,8 @@ impl FlatColumn {
         ensures fits { IfOk result IsFlat }
         ensures err { IsOkUnless result ColumnError.OutOfMemory }
     {
-        Ok(FlatColumn {
-            dtype,
-            source: Source::Rows(Shared::new(alloc, Seq::new(alloc))?),
-            start: 0,
-            end: 0,
-        })
+        let none = RowBuffer::new(alloc, &dtype);
+        FlatColumn::from_buffer(alloc, dtype, none)
     }
 
     /// Another handle on the same rows.
@@ -185,15 +193,38 @@ impl FlatColumn {
         })
     }
 
-    /// Row `i`, lent and not counted.
-    pub(crate) fn row(&self, i: usize) -> &Row
+    /// A copy of row `i`, not counted.
+    fn row(&self, alloc: Global, i: usize) -> Res<Row>
         requires { i < length self.now.rows }
-        ensures value { result.now ≡ get_or self.now.rows i None }
-        ensures free { IsFalse (type_takes_memory self.now.dtype) → IsFalse (row_takes_memory result.now) }
+        ensures ok { IfOk result (λ r. r ≡ get_or self.now.rows i None) }
+        ensures err { IsOkUnless result ColumnError.OutOfMemory }
+        ensures free { IsFalse (type_takes_memory self.now.dtype) → IsOk result }
     {
         match &self.source {
-            Source::Rows(rows) => &rows.get().as_slice()[self.start + i],
-            Source::Constant(row) => row.get(),
+            Source::Rows(rows) => rows.get().row(alloc, self.start + i),
+            Source::Constant(row) => copy_row(alloc, row.get()),
+        }
+    }
+
+    /// Whether row `i` is a value, not counted.
+    pub(crate) fn is_valid(&self, i: usize) -> bool
+        requires { i < length self.now.rows }
+        ensures { result ≡ is_some (get_or self.now.rows i None) }
+    {
+        match &self.source {
+            Source::Rows(rows) => rows.get().is_valid(self.start + i),
+            Source::Constant(row) => row.get().is_some(),
+        }
+    }
+
+    /// How row `i` stands to `elem`, not counted.
+    fn cmp(&self, i: usize, elem: &Row) -> Ordering
+        requires { i < length self.now.rows }
+        ensures { result ≡ row_cmp (get_or self.now.rows i None) elem.now }
+    {
+        match &self.source {
+            Source::Rows(rows) => rows.get().cmp(self.start + i, elem),
+            Source::Constant(row) => order::row_cmp(row.get(), elem),
         }
     }
 
@@ -206,7 +237,7 @@ impl FlatColumn {
         ensures cost { steps.new ≡ steps.old + 1 }
     {
         steps.tick();
-        copy_row(alloc, self.row(i))
+        self.row(alloc, i)
     }
 
     /// The number of row `i`, where it is an integer. Not counted.
@@ -214,9 +245,9 @@ impl FlatColumn {
         requires { i < length self.now.rows }
         ensures { result ≡ row_int (get_or self.now.rows i None) }
     {
-        match self.row(i) {
-            Some(Value::Int(number)) => Some(*number),
-            _ => None,
+        match &self.source {
+            Source::Rows(rows) => rows.get().int(self.start + i),
+            Source::Constant(row) => number_of(row.get()),
         }
     }
 
@@ -238,7 +269,7 @@ impl FlatColumn {
         ensures cost { steps.new ≡ steps.old + 1 }
     {
         steps.tick();
-        self.row(i).is_some()
+        self.is_valid(i)
     }
 
     /// How row `i` stands to `elem`. Raises the steps by one.
@@ -248,7 +279,7 @@ impl FlatColumn {
         ensures cost { steps.new ≡ steps.old + 1 }
     {
         steps.tick();
-        order::row_cmp(self.row(i), elem)
+        self.cmp(i, elem)
     }
 
     /// Whether the rows are unsigned integers, of which none is null.
@@ -298,10 +329,8 @@ impl FlatColumn {
     {
         match &self.source {
             Source::Rows(rows) => {
-                copy_rows(
-                    alloc,
-                    &rows.get().as_slice()[self.start + range.start..self.start + range.end],
-                )
+                rows.get()
+                    .copies(alloc, self.start + range.start..self.start + range.end)
             }
             Source::Constant(row) => repeat_row(alloc, row.get(), range.end - range.start),
         }
@@ -326,5 +355,54 @@ impl FlatColumn {
         let rows = self.rows_in(alloc, range)?;
         out.append(rows)?;
         Ok(())
+    }
+    /// Appends the rows of the range to a buffer, not counted.
+    fn extend(&self, alloc: Global, range: Range<usize>, out: &mut RowBuffer) -> Res<()>
+        requires order { range.start ≤ range.end }
+        requires inside { range.end ≤ length self.now.rows }
+        ensures ok { OnOk result (out.new ≡ out.old ++ slice_range self.now.rows range.start range.end) }
+        ensures err { OnErr result (out.new ≡ out.old) }
+        ensures refuses { IsOkUnless result ColumnError.OutOfMemory }
+    {
+        match &self.source {
+            Source::Rows(rows) => out.extend_from(
+                alloc,
+                rows.get(),
+                self.start + range.start..self.start + range.end,
+            ),
+            Source::Constant(row) => {
+                out.extend_repeated(alloc, row.get(), range.end - range.start)
+            }
+        }
+    }
+
+    /// Appends the rows of the range to a buffer, at once where both pack one kind. Raises the steps by the range's length;
+    /// a refusal leaves `out` as it was.
+    pub fn append_into<L: Ledger>(
+        &self,
+        alloc: Global,
+        range: Range<usize>,
+        out: &mut RowBuffer,
+        steps: &mut Steps<L>,
+    ) -> Res<()>
+        requires order { range.start ≤ range.end }
+        requires inside { range.end ≤ length self.now.rows }
+        ensures ok { OnOk result (out.new ≡ out.old ++ slice_range self.now.rows range.start range.end) }
+        ensures err { OnErr result (out.new ≡ out.old) }
+        ensures refuses { IsOkUnless result ColumnError.OutOfMemory }
+        ensures cost { steps.new ≡ steps.old + (range.end - range.start) }
+    {
+        let count = range.end - range.start;
+        steps.add(count);
+        self.extend(alloc, range, out)
+    }
+}
+
+fn number_of(row: &Row) -> Option<i128>
+    ensures { result ≡ row_int row.now }
+{
+    match row {
+        Some(Value::Int(number)) => Some(*number),
+        _ => None,
     }
 }

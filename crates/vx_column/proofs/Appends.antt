@@ -1,7 +1,8 @@
 -- What copies of all rows cost.
-use Rattle.std.proofs.Common.{◌≡◌, ℕ, zero, suc, ◌+◌, ◌*◌, ◌≤◌, ◌<◌, List, [], ◌∷◌, ◌++◌, map, length, take, get_or, sym, ◌∙◌, ap, subst, arith, length-append}
+use Rattle.std.proofs.Common.{◌≡◌, ℕ, zero, suc, ◌+◌, ◌*◌, ◌≤◌, ◌<◌, List, [], ◌∷◌, ◌++◌, Option, map, length, take, get_or, sym, ◌∙◌, ap, subst, arith, length-append, append_assoc}
 use Rattle.std.proofs.lemmas.List.{take_more}
 use Rattle.std.proofs.Math.Nat.{mul-le-mul, mul-le-mul_left, le_refl}
+use Rattle.vx_rows.specs.declared.value.Value.{Value}
 use Rattle.vx_chunks.specs.Bounds.{total}
 use Rattle.vx_column.specs.Columns.{rows_of, len_of, point_cost, lane_cost, select_bound}
 use Rattle.vx_job.specs.Rows.{greatest}
@@ -50,3 +51,11 @@ append_bound c xs k old new same rise =
     let few : 8 * length (rows_in (take k xs)) ≤ 8 * len_of (column.Chunked c) = omega (arith, rows_part xs k, all) in
     let lanes : total (map lane_cost (take k xs)) ≤ lane_cost (column.Chunked c) = omega (arith, total_front lane_cost k xs, ap (λ ys. total (map lane_cost ys)) same, lane_chunked c) in
     omega (arith, rise, lanes, mul-le-mul few (le_refl most))
+
+-- rows behind rows: what stands before, and one piece more
+pub appended_next : (old front out rows next more : List (Option Value)) → out ≡ old ++ front → next ≡ out ++ rows → more ≡ front ++ rows → next ≡ old ++ more
+appended_next old front out rows next more before ok is = ok ∙ ap (λ r. r ++ rows) before ∙ append_assoc old front rows ∙ ap (λ r. old ++ r) (sym is)
+
+-- all of them
+pub appended_all : (old front out all : List (Option Value)) → out ≡ old ++ front → front ≡ all → out ≡ old ++ all
+appended_all old front out all before is = before ∙ ap (λ r. old ++ r) is

@@ -12,7 +12,7 @@ use crate::interleave::Interleave;
 use crate::patched::Patched;
 use std::alloc::Global;
 use std::ops::Range;
-use vx_base::{ColumnError, DType, FlatColumn, Ledger, Res, Row, Seq, Steps};
+use vx_base::{ColumnError, DType, FlatColumn, Ledger, Res, Row, RowBuffer, Seq, Steps};
 
 /// A column, by its encoding. It means its type and its rows; its parts are never visible.
 pub enum Column {
@@ -245,6 +245,19 @@ impl Column {
         }
     }
 
+    /// Copies of all rows.
+    pub fn to_buffer<L: Ledger>(&self, alloc: Global, steps: &mut Steps<L>) -> Res<RowBuffer>
+        requires { IsSound self.now }
+        ensures ok { IfOk result (λ rows. rows ≡ rows_of self.now) }
+        ensures err { IsOkUnless result ColumnError.OutOfMemory }
+        ensures rise { IsPlain self.now → steps.new ≤ steps.old + select_bound self.now (len_of self.now) }
+        ensures monotone { steps.old ≤ steps.new }
+    {
+        let mut rows = RowBuffer::new(alloc, self.dtype());
+        self.append_rows(alloc, &mut rows, steps)?;
+        Ok(rows)
+    }
+
     /// Appends copies of all rows. A refusal leaves `out` as it was.
     pub fn append_into<L: Ledger>(
         &self,
@@ -259,9 +272,9 @@ impl Column {
         ensures rise { IsPlain self.now → steps.new ≤ steps.old + select_bound self.now (len_of self.now) }
         ensures monotone { steps.old ≤ steps.new }
     {
-        let mut rows = Seq::new(alloc);
-        self.append_rows(alloc, &mut rows, steps)?;
-        out.append(rows)?;
+        let rows = self.to_buffer(alloc, steps)?;
+        let copies = rows.copies(alloc, 0..rows.len())?;
+        out.append(copies)?;
         Ok(())
     }
 
@@ -270,7 +283,7 @@ impl Column {
     pub(crate) fn append_rows<L: Ledger>(
         &self,
         alloc: Global,
-        out: &mut Seq<Row>,
+        out: &mut RowBuffer,
         steps: &mut Steps<L>,
     ) -> Res<()>
         requires { IsSound self.now }
@@ -280,7 +293,7 @@ impl Column {
         ensures monotone { steps.old ≤ steps.new }
     {
         match self {
-            Column::Flat(rows) => rows.copy_into(alloc, 0..rows.len(), out, steps),
+            Column::Flat(rows) => rows.append_into(alloc, 0..rows.len(), out, steps),
             Column::Chunked(chunked) => chunked.append_rows(alloc, out, steps),
             Column::Patched(patched) => patched.append_rows(alloc, out, steps),
             Column::Excepted(_) | Column::Interleave(_) => self.append_each(alloc, out, steps),
@@ -291,7 +304,7 @@ impl Column {
     fn append_each<L: Ledger>(
         &self,
         alloc: Global,
-        out: &mut Seq<Row>,
+        out: &mut RowBuffer,
         steps: &mut Steps<L>,
     ) -> Res<()>
         requires { IsSound self.now }
@@ -301,7 +314,8 @@ impl Column {
         ensures monotone { steps.old ≤ steps.new }
     {
         for at in 0..self.len() {
-            out.push(self.row(alloc, at, steps)?)?;
+            let row = self.row(alloc, at, steps)?;
+            out.push(alloc, row)?;
         }
         Ok(())
     }

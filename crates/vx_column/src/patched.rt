@@ -3,7 +3,7 @@ ghost use Rattle.std.specs.Prelude.{◌≡◌, ◌+◌, ◌++◌, ◌*◌, ◌-�
 ghost use Rattle.std.specs.Prelude.{IfOk, OnOk, IfErr, IsOk, IsOkUnless, IsTrue, IsFalse};
 ghost use Rattle.vx_rows.specs.Sizes.{type_takes_memory};
 ghost use Rattle.vx_base.specs.Ranges.{ends_cut};
-ghost use Rattle.vx_lanes.specs.Layouts.{IsLayout, layout, chunks_of, lane_start};
+ghost use Rattle.vx_lanes.specs.Layouts.{IsLayout, layout, chunks_of, lane_start, overlaid, exceptions};
 ghost use Rattle.vx_job.specs.Kinds.{AreLaneKinds};
 ghost use Rattle.vx_job.specs.Faults.{IsLanesFault, MadeCause};
 ghost use Rattle.vx_column.specs.Columns.{IsSound, IsPlain, IsSliceOf, type_of, rows_of, len_of, point_cost, cut_cost};
@@ -16,7 +16,7 @@ use crate::column::Column;
 use crate::kinds::{is_integer, unsupported};
 use std::alloc::Global;
 use std::ops::Range;
-use vx_base::{ColumnError, DType, FlatColumn, Ledger, Res, Row, Seq, Shared, Steps};
+use vx_base::{ColumnError, DType, FlatColumn, Ledger, Res, Row, RowBuffer, Seq, Shared, Steps};
 use vx_lanes::Lanes;
 use vx_lanes::layout::CHUNK;
 
@@ -313,7 +313,7 @@ impl Patched<Column> {
     pub(crate) fn append_rows<L: Ledger>(
         &self,
         alloc: Global,
-        out: &mut Seq<Row>,
+        out: &mut RowBuffer,
         steps: &mut Steps<L>,
     ) -> Res<()>
         requires { IsSound (patched_column self.now) }
@@ -322,11 +322,30 @@ impl Patched<Column> {
         ensures rise { IsPlain (patched_column self.now) → steps.new ≤ steps.old + select_bound (patched_column self.now) (len_of (patched_column self.now)) }
         ensures monotone { steps.old ≤ steps.new }
     {
-        let mut rows = Seq::new(alloc);
+        let dtype = self.dtype();
+        let mut rows = RowBuffer::new(alloc, dtype);
         self.inner().append_rows(alloc, &mut rows, steps)?;
-        let mut rows = rows.into_vec();
-        self.lanes().overlay(rows.as_mut_slice(), steps);
-        out.append(Seq::from_vec(rows))?;
-        Ok(())
+        append_overlaid(alloc, dtype, self.lanes(), &rows, out, steps)
     }
+}
+
+/// Appends copies of rows with the exceptions of a layout over them. They are packed as rows of the type again.
+fn append_overlaid<L: Ledger>(
+    alloc: Global,
+    dtype: &DType,
+    lanes: &Lanes,
+    rows: &RowBuffer,
+    out: &mut RowBuffer,
+    steps: &mut Steps<L>,
+) -> Res<()>
+    requires { length rows.now ≡ lanes.now.len }
+    ensures ok { OnOk result (out.new ≡ out.old ++ overlaid lanes.now rows.now) }
+    ensures err { IsOkUnless result ColumnError.OutOfMemory }
+    ensures rise { steps.new ≤ steps.old + length lanes.now.lane_offsets.rows + exceptions lanes.now + length rows.now }
+    ensures monotone { steps.old ≤ steps.new }
+{
+    let mut copies = rows.copies(alloc, 0..rows.len())?.into_vec();
+    lanes.overlay(copies.as_mut_slice(), steps);
+    let overlaid = RowBuffer::from_rows(alloc, dtype, Seq::from_vec(copies))?;
+    out.extend_from(alloc, &overlaid, 0..overlaid.len())
 }

@@ -3,7 +3,7 @@ ghost use Rattle.std.specs.Prelude.{◌≡◌};
 ghost use Rattle.vx_job.specs.PageView.{page_view};
 
 use std::marker::Model;
-use vx_base::{DType, Row, Seq};
+use vx_base::{DType, Row, RowBuffer, Seq};
 
 /// What a step answers.
 #[derive(Drop)]
@@ -17,7 +17,7 @@ pub enum Answer {
 pub struct Page {
     answers: Seq<Answer>,
     dtype: DType,
-    rows: Seq<Row>,
+    rows: RowBuffer,
 }
 
 impl Model for Page {
@@ -32,7 +32,7 @@ impl Model for Page {
 
 impl Page {
     /// A page of these. That the rows fit the type isn't asked.
-    pub fn new(answers: Seq<Answer>, dtype: DType, rows: Seq<Row>) -> Page
+    pub fn new(answers: Seq<Answer>, dtype: DType, rows: RowBuffer) -> Page
         ensures { result ≡ page_view answers dtype rows }
     {
         Page {
@@ -57,9 +57,9 @@ impl Page {
     }
 
     /// The rows that the last step left.
-    pub fn rows(&self) -> &[Row]
+    pub fn rows(&self) -> &RowBuffer
         ensures { result.now ≡ self.now.rows }
     {
-        self.rows.as_slice()
+        &self.rows
     }
 }

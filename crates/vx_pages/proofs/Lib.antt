@@ -1,3 +1,5 @@
 pub mod RowLists
 pub mod TypeLists
-pub mod Floats
+pub mod Lists
+pub mod Joins
+pub mod Printed

@@ -66,10 +66,28 @@ path_json numbers = array (items_of (map whole_json numbers))
 abbrev pub bare : List ℕ → Data
 bare name = object (member (codes "error") (string name) no_members)
 
--- a refusal that names a slot
-abbrev pub at_slot : List ℕ → ℕ → Data
-at_slot name slot =
-    object (member (codes "error") (string name) (member (codes "slot") (whole_json slot) no_members))
+-- a refusal with one number, under this key
+abbrev pub counted : List ℕ → List ℕ → ℕ → Data
+counted name key n =
+    object (member (codes "error") (string name) (member key (whole_json n) no_members))
+
+-- a range that ends before it starts
+abbrev pub bad_range : ℕ → ℕ → Data
+bad_range start end =
+    object (member (codes "end") (whole_json end) (member (codes "error") (string (codes "BadRange"))
+    (member (codes "start") (whole_json start) no_members)))
+
+-- a row number that isn't there, or an end past it
+abbrev pub out_of_bounds : ℕ → ℕ → Data
+out_of_bounds index len =
+    object (member (codes "error") (string (codes "OutOfBounds")) (member (codes "index") (whole_json index)
+    (member (codes "len") (whole_json len) no_members)))
+
+-- a list of another length than it has to have
+abbrev pub length_mismatch : ℕ → ℕ → Data
+length_mismatch expected found =
+    object (member (codes "error") (string (codes "LengthMismatch"))
+    (member (codes "expected") (whole_json expected) (member (codes "found") (whole_json found) no_members)))
 
 -- a part that breaks a rule
 abbrev pub malformed : List ℕ → Rule → Data
@@ -116,29 +134,17 @@ abbrev pub refusal_json : ColumnError → Data
 refusal_json refused.OutOfMemory = bare (codes "OutOfMemory")
 refusal_json (refused.Malformed at broken) = malformed at broken
 refusal_json (refused.Unsupported at) = unsupported at
-refusal_json (refused.UnsupportedStep step) =
-    object (member (codes "error") (string (codes "UnsupportedStep"))
-    (member (codes "step") (whole_json step) no_members))
-refusal_json (refused.BadRange start end) =
-    object (member (codes "end") (whole_json end) (member (codes "error") (string (codes "BadRange"))
-    (member (codes "start") (whole_json start) no_members)))
-refusal_json (refused.OutOfBounds index len) =
-    object (member (codes "error") (string (codes "OutOfBounds")) (member (codes "index") (whole_json index)
-    (member (codes "len") (whole_json len) no_members)))
-refusal_json (refused.LengthMismatch expected found) =
-    object (member (codes "error") (string (codes "LengthMismatch"))
-    (member (codes "expected") (whole_json expected) (member (codes "found") (whole_json found) no_members)))
+refusal_json (refused.UnsupportedStep step) = counted (codes "UnsupportedStep") (codes "step") step
+refusal_json (refused.BadRange start end) = bad_range start end
+refusal_json (refused.OutOfBounds index len) = out_of_bounds index len
+refusal_json (refused.LengthMismatch expected found) = length_mismatch expected found
 refusal_json refused.MismatchedTypes = bare (codes "MismatchedTypes")
-refusal_json (refused.BadCast row) =
-    object (member (codes "error") (string (codes "BadCast"))
-    (member (codes "row") (whole_json row) no_members))
+refusal_json (refused.BadCast row) = counted (codes "BadCast") (codes "row") row
 refusal_json refused.Unsorted = bare (codes "Unsorted")
-refusal_json (refused.UnknownColumn n) =
-    object (member (codes "error") (string (codes "UnknownColumn"))
-    (member (codes "number") (whole_json n) no_members))
+refusal_json (refused.UnknownColumn n) = counted (codes "UnknownColumn") (codes "number") n
 refusal_json refused.NoChunkOffsets = bare (codes "NoChunkOffsets")
-refusal_json (refused.SlotOutOfRange slot) = at_slot (codes "SlotOutOfRange") slot
-refusal_json (refused.MissingSlot slot) = at_slot (codes "MissingSlot") slot
+refusal_json (refused.SlotOutOfRange slot) = counted (codes "SlotOutOfRange") (codes "slot") slot
+refusal_json (refused.MissingSlot slot) = counted (codes "MissingSlot") (codes "slot") slot
 refusal_json refused.NotSerializable = bare (codes "NotSerializable")
 refusal_json (refused.BadMetadata fault) = fault_json fault
 refusal_json refused.NoChunks = bare (codes "NoChunks")

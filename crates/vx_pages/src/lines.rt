@@ -1,23 +1,22 @@
 //! The lines that are written.
-ghost use Rattle.std.specs.Prelude.{◌≡◌, IfOk, IsOkUnless, false};
-ghost use Rattle.serde_json.specs.View.{view};
-ghost use Rattle.serde_json.specs.Written.{has_float};
+ghost use Rattle.std.specs.Prelude.{◌≡◌, [], ◌∷◌, ◌++◌, IfOk, IsOkUnless};
+ghost use Rattle.json.specs.Print.{print};
 ghost use Rattle.vx_pages.specs.Lines.{line};
 ghost use Rattle.vx_pages.specs.PageJson.{page_json};
 ghost use Rattle.vx_pages.specs.RefusalJson.{refusal_json};
 
-use crate::page::page_of;
-use crate::refusal::refusal_of;
-use serde_json::Value;
+use crate::page_text::write_page;
+use crate::refusal_text::write_refusal;
+use json::Writer;
 use std::alloc::{AllocError, Global};
 use vx_job::Page;
 use vx_rows::{ColumnError, Res};
 
-fn line_of(alloc: Global, value: &Value) -> Result<Vec<u8>, AllocError>
-    requires { has_float (view value.now) ≡ false }
-    ensures { IfOk result (λ text. text.items ≡ line (view value.now)) }
+/// What was written, and a line feed.
+fn ended(out: Writer) -> Result<Vec<u8>, AllocError>
+    ensures { IfOk result (λ text. text.items ≡ (out.before ++ print out.tokens) ++ 10 ∷ []) }
 {
-    let mut text = value.to_vec(alloc)?;
+    let mut text = out.into_inner();
     text.push(b'\n')?;
     Ok(text)
 }
@@ -27,8 +26,9 @@ pub fn page_line(alloc: Global, page: &Page) -> Res<Vec<u8>>
     ensures ok { IfOk result (λ text. text.items ≡ line (page_json page.now)) }
     ensures err { IsOkUnless result ColumnError.OutOfMemory }
 {
-    let value = page_of(alloc, page)?;
-    Ok(line_of(alloc, &value)?)
+    let mut out = Writer::new(Vec::new(alloc));
+    write_page(alloc, &mut out, page)?;
+    Ok(ended(out)?)
 }
 
 /// The text of a refusal, and a line feed.
@@ -36,6 +36,7 @@ pub fn refusal_line(alloc: Global, error: &ColumnError) -> Res<Vec<u8>>
     ensures ok { IfOk result (λ text. text.items ≡ line (refusal_json error.now)) }
     ensures err { IsOkUnless result ColumnError.OutOfMemory }
 {
-    let value = refusal_of(alloc, error)?;
-    Ok(line_of(alloc, &value)?)
+    let mut out = Writer::new(Vec::new(alloc));
+    write_refusal(&mut out, error)?;
+    Ok(ended(out)?)
 }

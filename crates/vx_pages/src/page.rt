@@ -3,7 +3,7 @@ ghost use Rattle.std.specs.Prelude.{◌≡◌, IfOk, IsOkUnless, map};
 ghost use Rattle.serde_json.specs.View.{view};
 ghost use Rattle.vx_pages.specs.PageJson as spec;
 
-use crate::row_json::rows_json;
+use crate::row_json::{buffer_json, rows_json};
 use crate::type_json::type_json;
 use serde_json::{Value, json};
 use std::alloc::{AllocError, Global};
@@ -35,7 +35,7 @@ fn page_json(alloc: Global, page: &Page) -> Result<Value, AllocError>
     ensures { IfOk result (λ v. view v ≡ spec.page_json page.now) }
 {
     let answers = Value::Array(answers_json(alloc, page.answers())?);
-    let rows = Value::Array(rows_json(alloc, page.rows())?);
+    let rows = Value::Array(buffer_json(alloc, page.rows())?);
     let dtype = type_json(alloc, page.dtype())?;
     json!(in alloc; {"answers": answers, "rows": rows, "type": dtype})
 }

@@ -70,8 +70,7 @@ impl Answers {
     {
         let Answers { answers, column } = self;
         let dtype = column.dtype().copy()?;
-        let mut rows = Seq::new(alloc);
-        column.append_into(alloc, &mut rows, steps)?;
+        let rows = column.to_buffer(alloc, steps)?;
         Ok(Page::new(answers, dtype, rows))
     }
 }

@@ -1,10 +1,11 @@
 use Rattle.vx_column.specs.declared.column.Column.{Column}
-use Rattle.std.proofs.Common.{◌+◌, ◌++◌, sym, arith, ap, ◌∙◌, take, append_assoc, subst, ◌≤◌}
+use Rattle.vx_column.specs.declared.column.Column.TheVariants as column
+use Rattle.std.proofs.Common.{◌≡◌, ◌+◌, sym, arith, ap, ◌∙◌, take, subst, ◌≤◌}
 use Rattle.std.proofs.lemmas.List.{take_all}
 use Rattle.vx_column.specs.Columns.{rows_of, IsPlain, select_bound, len_of}
 use Rattle.vx_column.proofs.Cuts.{rows_in, rows_more, held_at}
 use Rattle.vx_column.proofs.Layers.{rows_chunked}
-use Rattle.vx_column.proofs.Appends.{append_next, append_bound}
+use Rattle.vx_column.proofs.Appends.{append_next, append_bound, appended_next, appended_all}
 use Rattle.vx_column.proofs.+append_rows.Goals as goal
 
 pub chunked::Chunked+Column::append_rows-returns-in_err-append_rows-clause-rise : goal.chunked::Chunked+Column::append_rows-returns-in_err-append_rows-clause-rise
@@ -23,8 +24,7 @@ chunked::Chunked+Column::append_rows-loop-chunk-preserved g t c =
     let old = c.args.out.now in
     let more = rows_more xs k c.chunk-item.result (omega arith) c.chunk-item.is in
     record {
-      appended = c.in_ok-append_rows.ensures.ok ∙ ap (λ r. r ++ rows_of c.chunk-item.result) c.loop-chunk.invariant.appended
-          ∙ append_assoc old (rows_in (take k xs)) (rows_of c.chunk-item.result) ∙ ap (λ r. old ++ r) (sym more);
+      appended = appended_next old (rows_in (take k xs)) c.loop-chunk.out (rows_of c.chunk-item.result) c.append_rows.new.out (rows_in (take (k + 1) xs)) c.loop-chunk.invariant.appended c.in_ok-append_rows.ensures.ok more;
       rise = λ plain. append_next self xs k c.chunk-item.result c.args.steps.now c.loop-chunk.steps c.append_rows.new.steps c.children-chunk-items.ensures.value (omega arith) c.chunk-item.is (c.loop-chunk.invariant.rise plain) (c.append_rows.ensures.rise (held_at IsPlain xs k c.chunk-item.result (c.children-chunk-items.ensures.plain plain) (omega arith) c.chunk-item.is));
       monotone = omega (arith, c.append_rows.ensures.monotone, c.loop-chunk.invariant.monotone);
     }
@@ -34,8 +34,8 @@ chunked::Chunked+Column::append_rows-returns-clause-ok g t c =
     let self = c.args.self.now in
     let xs = c.children-chunk-items.result.now in
     let k = c.loop-chunk.chunk-index in
-    let old = c.args.out.now in
-    c.loop-chunk.invariant.appended ∙ ap (λ ys. old ++ rows_in ys) (take_all k xs (omega arith) ∙ c.children-chunk-items.ensures.value) ∙ ap (λ r. old ++ r) (sym (rows_chunked self))
+    let all : rows_in (take k xs) ≡ rows_of (column.Chunked self) = ap rows_in (take_all k xs (omega arith) ∙ c.children-chunk-items.ensures.value) ∙ sym (rows_chunked self) in
+    appended_all c.args.out.now (rows_in (take k xs)) c.loop-chunk.out (rows_of (column.Chunked self)) c.loop-chunk.invariant.appended all
 
 pub chunked::Chunked+Column::append_rows-returns-clause-rise : goal.chunked::Chunked+Column::append_rows-returns-clause-rise
 chunked::Chunked+Column::append_rows-returns-clause-rise g t c plain =

@@ -1,5 +1,8 @@
-use Rattle.vx_pages.proofs.Floats.{refusal_plain}
+use Rattle.std.proofs.Common.{rules}
+use Rattle.vx_pages.specs.RefusalJson.{refusal_json}
+use Rattle.vx_pages.proofs.Printed.{printed_line}
 use Rattle.vx_pages.proofs.lines.refusal_line.Goals as goal
 
-pub line_of-requires : goal.line_of-requires
-line_of-requires c = rw c.in_ok-value.ensures.ok (refusal_plain c.args.error.now)
+pub returns-clause-ok : goal.returns-clause-ok
+returns-clause-ok c =
+    printed_line (refusal_json c.args.error.now) c.write_refusal.new.out.before _ c.write_refusal.new.out.tokens (search rules) (search rules) c.in_ok-ended.ensures

@@ -5,7 +5,7 @@ use Rattle.vx_base.proofs.flat.FlatColumn.rows_in.Goals as goal
 pub returns-in-Rows-clause-ok : goal.returns-in-Rows-clause-ok
 returns-in-Rows-clause-ok c =
     let e = rows_inside c.self.inside c.args.self.now c.self.view_is c.self.invariant _ _ c.requires.order c.requires.inside in
-    rw (sym e, c.in-Rows.is, sym c.get.ensures, sym c.as_slice.ensures) c.copy_rows.ensures.ok
+    rw (sym e, c.in-Rows.is, sym c.get.ensures) c.copies.ensures.ok
 
 pub returns-in-Constant-clause-ok : goal.returns-in-Constant-clause-ok
 returns-in-Constant-clause-ok c =

@@ -1,0 +1,12 @@
+-- Lists of values and nulls, as numbers with marks.
+use Rattle.std.specs.Prelude.{Bool, true, false, List, [], ◌∷◌, Option, Some, None, map}
+
+abbrev pub cell : {A : Type 0} → Bool → A → Option A
+cell true x = Some x
+cell false x = None
+
+-- a number whose mark is false is a null; marks may be fewer or more than the numbers
+abbrev pub cells : {A : Type 0} → List Bool → List A → List (Option A)
+cells [] xs = map Some xs
+cells (m ∷ ms) [] = []
+cells (m ∷ ms) (x ∷ xs) = cell m x ∷ cells ms xs

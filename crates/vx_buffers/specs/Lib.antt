@@ -1,0 +1,6 @@
+pub mod Cells
+pub mod Fits
+pub mod Numbers
+pub mod Refs
+pub mod Rows
+pub mod Stores

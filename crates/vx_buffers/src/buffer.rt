@@ -1,0 +1,312 @@
+//! Growable lists of rows, packed by kind.
+ghost use Rattle.std.specs.Prelude.{◌≡◌, ◌<◌, ◌≤◌, [], ◌∷◌, ◌++◌, nat_eq, length, take, reverse, replicate, get_or, Some, None, is_some, IfOk, OnOk, OnErr, IsOk, IsOkUnless, IsFalse, Option};
+ghost use Rattle.std.specs.List.{slice_range};
+ghost use Rattle.vx_rows.specs.Fits.{rows_fit};
+ghost use Rattle.vx_rows.specs.Order.{row_cmp};
+ghost use Rattle.vx_rows.specs.Sizes.{row_takes_memory};
+ghost use Rattle.vx_rows.specs.declared.value.Value.{Value as AnyValue, Bool as BoolValue, Int as IntValue, Decimal as DecimalValue, Utf8 as Utf8Value, Binary as BinaryValue};
+ghost use Rattle.vx_buffers.specs.Numbers.{row_int};
+ghost use Rattle.vx_buffers.specs.Refs.{row_of_ref};
+ghost use Rattle.vx_buffers.specs.Rows.{RowList};
+ghost use Rattle.vx_buffers.specs.Stores.{Offered};
+
+use crate::fitting::store_fits;
+use crate::offers::{offer, offer_number, offer_range};
+use crate::row_ref::RowRef;
+use crate::store::Store;
+use std::alloc::{AllocError, Global};
+use std::cmp::Ordering;
+use std::marker::Model;
+use std::ops::Range;
+use vx_rows::copy::copy_row;
+use vx_rows::{ColumnError, DType, Res, Row, Seq, Text, Value};
+
+/// A growable list of rows. Rows of one kind, booleans, integers or decimals, take a few bytes each; a row of another
+/// kind than the buffer packs is taken too, and then none is packed. Contracts see the list of rows.
+pub struct RowBuffer {
+    store: Store,
+}
+
+impl Drop for RowBuffer {
+    fn drop(self) {
+        let RowBuffer { store: _ } = self;
+    }
+}
+
+impl Model for RowBuffer {
+    ghost use Rattle.vx_buffers.specs.Rows.{RowList, rows_code};
+
+    ghost Value = { RowList };
+
+    ghost coded = { rows_code };
+
+    ghost use Rattle.vx_buffers.specs.Stores.{rows_of};
+
+    ghost view = { λ b. rows_of b.store };
+}
+
+impl RowBuffer {
+    /// No rows, to be packed as rows of the type.
+    pub fn new(alloc: Global, dtype: &DType) -> RowBuffer
+        ensures { result ≡ [] }
+    {
+        RowBuffer {
+            store: Store::new(alloc, dtype),
+        }
+    }
+
+    /// The rows, packed as rows of the type. Where the type isn't packed they are not copied.
+    pub fn from_rows(alloc: Global, dtype: &DType, rows: Seq<Row>) -> Res<RowBuffer>
+        ensures ok { IfOk result (λ b. b ≡ rows) }
+        ensures err { IsOkUnless result ColumnError.OutOfMemory }
+    {
+        match dtype {
+            DType::Bool(_) | DType::Primitive(_, _) | DType::Decimal(_, _) => {
+                packed(alloc, dtype, rows.as_slice())
+            }
+            _ => Ok(RowBuffer {
+                store: Store::Rows(rows.into_vec()),
+            }),
+        }
+    }
+
+    /// The number of rows.
+    pub fn len(&self) -> usize
+        ensures { result ≡ length self.now }
+    {
+        self.store.len()
+    }
+
+    /// Whether there is no row.
+    pub fn is_empty(&self) -> bool
+        ensures { result ≡ nat_eq (length self.now) 0 }
+    {
+        self.len() == 0
+    }
+
+    /// Row `i`, lent.
+    pub fn get(&self, i: usize) -> RowRef<'_>
+        requires { i < length self.now }
+        ensures { row_of_ref result ≡ get_or self.now i None }
+    {
+        self.store.get(i)
+    }
+
+    /// A copy of row `i`. Nulls, booleans, integers and decimals take no memory.
+    pub fn row(&self, alloc: Global, i: usize) -> Res<Row>
+        requires { i < length self.now }
+        ensures ok { IfOk result (λ r. r ≡ get_or self.now i None) }
+        ensures err { IsOkUnless result ColumnError.OutOfMemory }
+        ensures free { IsFalse (row_takes_memory (get_or self.now i None)) → IsOk result }
+    {
+        self.store.row(alloc, i)
+    }
+
+    /// The number of row `i`, where it is an integer.
+    pub fn int(&self, i: usize) -> Option<i128>
+        requires { i < length self.now }
+        ensures { result ≡ row_int (get_or self.now i None) }
+    {
+        self.store.int(i)
+    }
+
+    /// Whether row `i` is a value.
+    pub fn is_valid(&self, i: usize) -> bool
+        requires { i < length self.now }
+        ensures { result ≡ is_some (get_or self.now i None) }
+    {
+        self.store.is_valid(i)
+    }
+
+    /// How row `i` stands to `elem`. Takes no memory.
+    pub fn cmp(&self, i: usize, elem: &Row) -> Ordering
+        requires { i < length self.now }
+        ensures { result ≡ row_cmp (get_or self.now i None) elem.now }
+    {
+        self.store.cmp(i, elem)
+    }
+
+    /// Copies of the rows of the range.
+    pub fn copies(&self, alloc: Global, range: Range<usize>) -> Res<Seq<Row>>
+        requires order { range.start ≤ range.end }
+        requires inside { range.end ≤ length self.now }
+        ensures ok { IfOk result (λ rs. rs ≡ slice_range self.now range.start range.end) }
+        ensures err { IsOkUnless result ColumnError.OutOfMemory }
+    {
+        self.store.copies(alloc, range)
+    }
+
+    /// Whether each row fits the type, in one pass over what is packed.
+    pub fn fits(&self, dtype: &DType) -> bool
+        ensures { result ≡ rows_fit dtype.now self.now }
+    {
+        store_fits(&self.store, dtype)
+    }
+
+    /// Puts a row at the end. Where it isn't of the kind that is packed, the rows are unpacked first. A refusal drops
+    /// it, and leaves the others as they were.
+    pub fn push(&mut self, alloc: Global, row: Row) -> Res<()>
+        ensures ok { OnOk result (self.new ≡ self.old ++ row ∷ []) }
+        ensures err { OnErr result (self.new ≡ self.old) }
+        ensures refuses { IsOkUnless result ColumnError.OutOfMemory }
+    {
+        if let Store::Rows(rows) = &mut self.store {
+            rows.push(row)?;
+            return Ok(());
+        }
+        if offer(&mut self.store, &row)? {
+            return Ok(());
+        }
+        let mut rows = self.store.unpacked(alloc)?;
+        rows.push(row)?;
+        self.store = Store::Rows(rows);
+        Ok(())
+    }
+
+    /// Puts a null at the end, as `push` does.
+    pub fn push_null(&mut self, alloc: Global) -> Res<()>
+        ensures ok { OnOk result (self.new ≡ self.old ++ None ∷ []) }
+        ensures err { OnErr result (self.new ≡ self.old) }
+        ensures refuses { IsOkUnless result ColumnError.OutOfMemory }
+    {
+        self.push(alloc, None)
+    }
+
+    /// Puts a boolean at the end, as `push` does.
+    pub fn push_bool(&mut self, alloc: Global, truth: bool) -> Res<()>
+        ensures ok { OnOk result (self.new ≡ self.old ++ Some (BoolValue truth) ∷ []) }
+        ensures err { OnErr result (self.new ≡ self.old) }
+        ensures refuses { IsOkUnless result ColumnError.OutOfMemory }
+    {
+        self.push(alloc, Some(Value::Bool(truth)))
+    }
+
+    /// Puts an integer at the end, as `push` does.
+    pub fn push_int(&mut self, alloc: Global, number: i128) -> Res<()>
+        ensures ok { OnOk result (self.new ≡ self.old ++ Some (IntValue number) ∷ []) }
+        ensures err { OnErr result (self.new ≡ self.old) }
+        ensures refuses { IsOkUnless result ColumnError.OutOfMemory }
+    {
+        if offer_number(&mut self.store, number)? {
+            return Ok(());
+        }
+        self.push(alloc, Some(Value::Int(number)))
+    }
+
+    /// Puts the unscaled number of a decimal at the end, as `push` does.
+    pub fn push_decimal(&mut self, alloc: Global, unscaled: i128) -> Res<()>
+        ensures ok { OnOk result (self.new ≡ self.old ++ Some (DecimalValue unscaled) ∷ []) }
+        ensures err { OnErr result (self.new ≡ self.old) }
+        ensures refuses { IsOkUnless result ColumnError.OutOfMemory }
+    {
+        self.push(alloc, Some(Value::Decimal(unscaled)))
+    }
+
+    /// Puts a copy of the text at the end, as `push` does.
+    pub fn push_text(&mut self, alloc: Global, text: &str) -> Res<()>
+        ensures ok { OnOk result (self.new ≡ self.old ++ Some (Utf8Value text.now) ∷ []) }
+        ensures err { OnErr result (self.new ≡ self.old) }
+        ensures refuses { IsOkUnless result ColumnError.OutOfMemory }
+    {
+        let copy = Text::from_str(alloc, text)?;
+        self.push(alloc, Some(Value::Utf8(copy)))
+    }
+
+    /// Puts a copy of the bytes at the end, as `push` does.
+    pub fn push_bytes(&mut self, alloc: Global, bytes: &[u8]) -> Res<()>
+        ensures ok { OnOk result (self.new ≡ self.old ++ Some (BinaryValue bytes.now) ∷ []) }
+        ensures err { OnErr result (self.new ≡ self.old) }
+        ensures refuses { IsOkUnless result ColumnError.OutOfMemory }
+    {
+        let copy = Vec::from_slice(alloc, bytes)?;
+        self.push(alloc, Some(Value::Binary(Seq::from_vec(copy))))
+    }
+
+    /// Appends a range of the other rows, at once where both pack the same kind. A refusal leaves the rows as they were.
+    pub fn extend_from(&mut self, alloc: Global, other: &RowBuffer, range: Range<usize>) -> Res<()>
+        requires order { range.start ≤ range.end }
+        requires inside { range.end ≤ length other.now }
+        ensures ok { OnOk result (self.new ≡ self.old ++ slice_range other.now range.start range.end) }
+        ensures err { OnErr result (self.new ≡ self.old) }
+        ensures refuses { IsOkUnless result ColumnError.OutOfMemory }
+    {
+        if offer_range(&mut self.store, &other.store, range.start..range.end)? {
+            return Ok(());
+        }
+        let mut more = other.store.copies(alloc, range)?.into_vec();
+        if let Store::Rows(rows) = &mut self.store {
+            rows.append(&mut more)?;
+            return Ok(());
+        }
+        let mut rows = self.store.unpacked(alloc)?;
+        rows.append(&mut more)?;
+        self.store = Store::Rows(rows);
+        Ok(())
+    }
+
+    /// Appends copies of the row. A refusal leaves the rows as they were.
+    pub fn extend_repeated(&mut self, alloc: Global, row: &Row, count: usize) -> Res<()>
+        ensures ok { OnOk result (self.new ≡ self.old ++ replicate count row.now) }
+        ensures err { OnErr result (self.new ≡ self.old) }
+        ensures refuses { IsOkUnless result ColumnError.OutOfMemory }
+    {
+        let before = self.len();
+        let result = push_times(self, alloc, row, count);
+        if result.is_err() {
+            self.store.truncate(before);
+        }
+        result
+    }
+
+    /// Takes the last row away and puts it at the end of the other rows. It is moved where neither packs it. A refusal
+    /// leaves both as they were.
+    pub fn move_last_to(&mut self, alloc: Global, other: &mut RowBuffer) -> Res<()>
+        requires { 0 < length self.old }
+        ensures ok { (front : RowList) (row : Option AnyValue) → self.old ≡ front ++ row ∷ [] →
+            OnOk result ((self.new ≡ front) × (other.new ≡ other.old ++ row ∷ [])) }
+        ensures err { OnErr result ((self.new ≡ self.old) × (other.new ≡ other.old)) }
+        ensures refuses { IsOkUnless result ColumnError.OutOfMemory }
+    {
+        let last = self.len() - 1;
+        let row = self.row(alloc, last)?;
+        other.push(alloc, row)?;
+        self.store.truncate(last);
+        Ok(())
+    }
+
+    /// Turns the order round. A refusal leaves the rows as they were.
+    pub fn reverse(&mut self) -> Res<()>
+        ensures ok { OnOk result (self.new ≡ reverse self.old) }
+        ensures err { OnErr result (self.new ≡ self.old) }
+        ensures refuses { IsOkUnless result ColumnError.OutOfMemory }
+    {
+        self.store.reverse()?;
+        Ok(())
+    }
+}
+
+/// The rows, packed as rows of the type.
+fn packed(alloc: Global, dtype: &DType, rows: &[Row]) -> Res<RowBuffer>
+    ensures ok { IfOk result (λ b. b ≡ rows.now) }
+    ensures err { IsOkUnless result ColumnError.OutOfMemory }
+{
+    let mut buffer = RowBuffer::new(alloc, dtype);
+    for row in rows {
+        let copy = copy_row(alloc, row)?;
+        buffer.push(alloc, copy)?;
+    }
+    Ok(buffer)
+}
+
+/// Appends copies of the row, of which a refusal may leave some.
+fn push_times(buffer: &mut RowBuffer, alloc: Global, row: &Row, count: usize) -> Res<()>
+    ensures ok { OnOk result (buffer.new ≡ buffer.old ++ replicate count row.now) }
+    ensures err { OnErr result (take (length buffer.old) buffer.new ≡ buffer.old) }
+    ensures refuses { IsOkUnless result ColumnError.OutOfMemory }
+{
+    for _done in 0..count {
+        let copy = copy_row(alloc, row)?;
+        buffer.push(alloc, copy)?;
+    }
+    Ok(())
+}

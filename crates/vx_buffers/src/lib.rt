@@ -1,0 +1,13 @@
+//! Growable lists of rows, packed by kind.
+#![tactic(auto)]
+
+pub mod buffer;
+mod fitting;
+mod offers;
+pub mod row_ref;
+mod single;
+pub mod slots;
+mod store;
+
+pub use buffer::RowBuffer;
+pub use row_ref::RowRef;

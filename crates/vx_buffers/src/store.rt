@@ -1,0 +1,206 @@
+//! Where the rows of a buffer stand.
+ghost use Rattle.std.specs.Prelude.{◌≡◌, ◌<◌, ◌≤◌, [], length, take, reverse, get_or, Some, None, is_some, IfOk, OnOk, OnErr, IsOk, IsOkUnless, IsFalse};
+ghost use Rattle.std.specs.List.{slice_range};
+ghost use Rattle.vx_rows.specs.Order.{row_cmp};
+ghost use Rattle.vx_rows.specs.Sizes.{row_takes_memory};
+ghost use Rattle.vx_rows.specs.declared.value.Value.{Int as IntValue};
+ghost use Rattle.vx_buffers.specs.Numbers.{row_int};
+ghost use Rattle.vx_buffers.specs.Refs.{row_of_ref};
+ghost use Rattle.vx_buffers.specs.Stores.{rows_of};
+
+use crate::row_ref::RowRef;
+use crate::single::{
+    bool_ref, bool_row, decimal_ref, decimal_row, int_ref, int_row, long_ref, long_row, number_of,
+    wide_int, wide_long,
+};
+use crate::slots::Slots;
+use std::alloc::{AllocError, Global};
+use std::cmp::Ordering;
+use std::ops::Range;
+use vx_rows::copy::copy_row;
+use vx_rows::{ColumnError, DType, PType, Res, Row, Seq, order};
+
+/// Rows by kind: those of one kind that is packed, or rows of any kind.
+pub(crate) enum Store {
+    Bools(Slots<bool>),
+    Ints(Slots<i64>),
+    Longs(Slots<u64>),
+    Decimals(Slots<i128>),
+    Rows(Vec<Row>),
+}
+
+impl Drop for Store {
+    fn drop(self) {
+        match self {
+            Store::Bools(_truths) => {}
+            Store::Ints(_numbers) => {}
+            Store::Longs(_numbers) => {}
+            Store::Decimals(_unscaled) => {}
+            Store::Rows(_rows) => {}
+        }
+    }
+}
+
+impl Store {
+    /// No rows, to be packed as rows of the type.
+    pub(crate) fn new(alloc: Global, dtype: &DType) -> Store
+        ensures { rows_of result ≡ [] }
+    {
+        match dtype {
+            DType::Bool(_) => Store::Bools(Slots::new(alloc)),
+            DType::Primitive(PType::U64, _) => Store::Longs(Slots::new(alloc)),
+            DType::Primitive(_, _) => Store::Ints(Slots::new(alloc)),
+            DType::Decimal(_, _) => Store::Decimals(Slots::new(alloc)),
+            _ => Store::Rows(Vec::new(alloc)),
+        }
+    }
+
+    #[tactic(auto, using(crate::proofs::Rows::length_rows))]
+    pub(crate) fn len(&self) -> usize
+        ensures { result ≡ length (rows_of self.now) }
+    {
+        match self {
+            Store::Bools(truths) => truths.len(),
+            Store::Ints(numbers) => numbers.len(),
+            Store::Longs(numbers) => numbers.len(),
+            Store::Decimals(unscaled) => unscaled.len(),
+            Store::Rows(rows) => rows.len(),
+        }
+    }
+
+    /// Row `i`, lent.
+    #[tactic(auto, using(crate::proofs::Rows::length_rows, crate::proofs::Rows::get_rows))]
+    pub(crate) fn get(&self, i: usize) -> RowRef<'_>
+        requires { i < length (rows_of self.now) }
+        ensures { row_of_ref result ≡ get_or (rows_of self.now) i None }
+    {
+        match self {
+            Store::Bools(truths) => bool_ref(truths.get(i)),
+            Store::Ints(numbers) => int_ref(numbers.get(i)),
+            Store::Longs(numbers) => long_ref(numbers.get(i)),
+            Store::Decimals(unscaled) => decimal_ref(unscaled.get(i)),
+            Store::Rows(rows) => RowRef::new(&rows.as_slice()[i]),
+        }
+    }
+
+    /// A copy of row `i`.
+    #[tactic(auto, using(crate::proofs::Rows::length_rows, crate::proofs::Rows::get_rows))]
+    pub(crate) fn row(&self, alloc: Global, i: usize) -> Res<Row>
+        requires { i < length (rows_of self.now) }
+        ensures ok { IfOk result (λ r. r ≡ get_or (rows_of self.now) i None) }
+        ensures err { IsOkUnless result ColumnError.OutOfMemory }
+        ensures free { IsFalse (row_takes_memory (get_or (rows_of self.now) i None)) → IsOk result }
+    {
+        match self {
+            Store::Bools(truths) => Ok(bool_row(truths.get(i))),
+            Store::Ints(numbers) => Ok(int_row(numbers.get(i))),
+            Store::Longs(numbers) => Ok(long_row(numbers.get(i))),
+            Store::Decimals(unscaled) => Ok(decimal_row(unscaled.get(i))),
+            Store::Rows(rows) => copy_row(alloc, &rows.as_slice()[i]),
+        }
+    }
+
+    /// The number of row `i`, where it is an integer.
+    #[tactic(auto, using(crate::proofs::Rows::length_rows, crate::proofs::Rows::bool_at, crate::proofs::Rows::int_at, crate::proofs::Rows::long_at, crate::proofs::Rows::decimal_at))]
+    pub(crate) fn int(&self, i: usize) -> Option<i128>
+        requires { i < length (rows_of self.now) }
+        ensures { result ≡ row_int (get_or (rows_of self.now) i None) }
+    {
+        match self {
+            Store::Bools(_truths) => None,
+            Store::Ints(numbers) => wide_int(numbers.get(i)),
+            Store::Longs(numbers) => wide_long(numbers.get(i)),
+            Store::Decimals(_unscaled) => None,
+            Store::Rows(rows) => number_of(&rows.as_slice()[i]),
+        }
+    }
+
+    /// Whether row `i` is a value.
+    #[tactic(auto, using(crate::proofs::Rows::length_rows, crate::proofs::Rows::valid_rows))]
+    pub(crate) fn is_valid(&self, i: usize) -> bool
+        requires { i < length (rows_of self.now) }
+        ensures { result ≡ is_some (get_or (rows_of self.now) i None) }
+    {
+        match self {
+            Store::Bools(truths) => truths.get(i).is_some(),
+            Store::Ints(numbers) => numbers.get(i).is_some(),
+            Store::Longs(numbers) => numbers.get(i).is_some(),
+            Store::Decimals(unscaled) => unscaled.get(i).is_some(),
+            Store::Rows(rows) => rows.as_slice()[i].is_some(),
+        }
+    }
+
+    /// How row `i` stands to `elem`.
+    #[tactic(auto, using(crate::proofs::Rows::length_rows, crate::proofs::Rows::get_rows))]
+    pub(crate) fn cmp(&self, i: usize, elem: &Row) -> Ordering
+        requires { i < length (rows_of self.now) }
+        ensures { result ≡ row_cmp (get_or (rows_of self.now) i None) elem.now }
+    {
+        match self {
+            Store::Bools(truths) => order::row_cmp(&bool_row(truths.get(i)), elem),
+            Store::Ints(numbers) => order::row_cmp(&int_row(numbers.get(i)), elem),
+            Store::Longs(numbers) => order::row_cmp(&long_row(numbers.get(i)), elem),
+            Store::Decimals(unscaled) => order::row_cmp(&decimal_row(unscaled.get(i)), elem),
+            Store::Rows(rows) => order::row_cmp(&rows.as_slice()[i], elem),
+        }
+    }
+
+    /// Copies of the rows of the range.
+    #[tactic(auto, using(crate::proofs::Rows::range_more))]
+    pub(crate) fn copies(&self, alloc: Global, range: Range<usize>) -> Res<Seq<Row>>
+        requires order { range.start ≤ range.end }
+        requires inside { range.end ≤ length (rows_of self.now) }
+        ensures ok { IfOk result (λ rs. rs ≡ slice_range (rows_of self.now) range.start range.end) }
+        ensures err { IsOkUnless result ColumnError.OutOfMemory }
+    {
+        let mut copies = Seq::new(alloc);
+        for i in range.start..range.end {
+            copies.push(self.row(alloc, i)?)?;
+        }
+        Ok(copies)
+    }
+
+    /// Copies of all rows.
+    pub(crate) fn unpacked(&self, alloc: Global) -> Res<Vec<Row>>
+        ensures ok { IfOk result (λ rows. rows.items ≡ rows_of self.now) }
+        ensures err { IsOkUnless result ColumnError.OutOfMemory }
+    {
+        let mut rows = Vec::new(alloc);
+        for i in 0..self.len() {
+            rows.push(self.row(alloc, i)?)?;
+        }
+        Ok(rows)
+    }
+
+    /// Keeps the first rows, at most so many.
+    #[tactic(auto, using(crate::proofs::Rows::take_rows))]
+    pub(crate) fn truncate(&mut self, count: usize)
+        ensures { rows_of self.new ≡ take count (rows_of self.old) }
+    {
+        match self {
+            Store::Bools(truths) => truths.truncate(count),
+            Store::Ints(numbers) => numbers.truncate(count),
+            Store::Longs(numbers) => numbers.truncate(count),
+            Store::Decimals(unscaled) => unscaled.truncate(count),
+            Store::Rows(rows) => rows.truncate(count),
+        }
+    }
+
+    /// Turns the order round. A refusal leaves the rows as they were.
+    #[tactic(auto, using(crate::proofs::Rows::reverse_rows))]
+    pub(crate) fn reverse(&mut self) -> Result<(), AllocError>
+        ensures ok { OnOk result (rows_of self.new ≡ reverse (rows_of self.old)) }
+        ensures err { OnErr result (rows_of self.new ≡ rows_of self.old) }
+    {
+        match self {
+            Store::Bools(truths) => truths.reverse(),
+            Store::Ints(numbers) => numbers.reverse(),
+            Store::Longs(numbers) => numbers.reverse(),
+            Store::Decimals(unscaled) => unscaled.reverse(),
+            Store::Rows(rows) => {
+                rows.reverse();
+                Ok(())
+            }
+        }
+    }
+}
