@@ -7,8 +7,10 @@ use Rattle.vx_rows.specs.Fits.{row_fits, rows_fit}
 use Rattle.vx_rows.specs.declared.dtype.DType.{DType}
 use Rattle.vx_rows.specs.declared.value.Value.{Value}
 use Rattle.vx_base.specs.Column.{Flat, flat}
-use Rattle.vx_json.specs.Forms.{◌>>=◌, all_items, list_of}
-use Rattle.vx_json.specs.Parts.{fitted}
+use Rattle.vx_json.specs.Forms.{◌>>=◌, Fails, all_items, list_of}
+use Rattle.vx_json.specs.declared.forms.Unread.{Unread}
+use Rattle.vx_json.specs.declared.forms.Unread.TheVariants.{NoForm, OutOfMemory}
+use Rattle.vx_json.specs.Parts.{fitted, fitted_rows}
 use Rattle.vx_json.specs.Rows.{row_of, fitting_row}
 
 -- rows, where a test allows them
@@ -77,14 +79,19 @@ no_column t None is = refl
 no_column t (Some rs) is = column_gone t (rows_fit t rs) rs is
 
 -- rows that were read and tested one by one make a column
-pub fitted_rows : (t : DType) (d : Data) (rows : List (Option Value))
-    → list_of (fitting_row t) d ≡ Some rows → (list_of (row_of t) d >>= fitted t) ≡ Some (flat t rows)
-fitted_rows t d rows is = column_of t (list_of (row_of t) d) rows (sym (list_fitted t d) ∙ is)
+pub read_rows : (t : DType) (d : Data) (rows : List (Option Value))
+    → list_of (fitting_row t) d ≡ Some rows → fitted_rows t d ≡ Some (flat t rows)
+read_rows t d rows is = column_of t (list_of (row_of t) d) rows (sym (list_fitted t d) ∙ is)
 
 -- where one was not read, or doesn't fit, there is no column
-pub unfitted_rows : (t : DType) (d : Data)
-    → list_of (fitting_row t) d ≡ None → (list_of (row_of t) d >>= fitted t) ≡ None
-unfitted_rows t d is = no_column t (list_of (row_of t) d) (sym (list_fitted t d) ∙ is)
+pub unread_rows : (t : DType) (d : Data)
+    → list_of (fitting_row t) d ≡ None → fitted_rows t d ≡ None
+unread_rows t d is = no_column t (list_of (row_of t) d) (sym (list_fitted t d) ∙ is)
+
+pub fails_fitted : (t : DType) (d : Data) (e : Unread)
+    → Fails e (list_of (fitting_row t) d) → Fails e (fitted_rows t d)
+fails_fitted t d (NoForm reason) h = unread_rows t d h
+fails_fitted t d OutOfMemory h = tt
 
 fits_kept : (t : DType) (b : Bool) (rs rows : List (Option Value)) → rows_fit t rs ≡ b → kept b rs ≡ Some rows
     → IsTrue (rows_fit t rows)

@@ -20,6 +20,10 @@ use Rattle.vx_json.specs.Rows.{row_of, fitted_row}
 abbrev pub fitted : DType → List (Option Value) → Option FlatRows
 fitted t rows = if rows_fit t rows then Some (flat t rows) else None
 
+-- a list of rows of a type, where each fits
+abbrev pub fitted_rows : DType → Data → Option FlatRows
+fitted_rows t d = list_of (row_of t) d >>= fitted t
+
 -- `{"flat":T,"rows":[row]}`
 unfoldable pub flat_form : Data → Option FlatRows
 flat_form d = do

@@ -68,8 +68,13 @@ pub fn has_keys(value: &Value, keys: &[&str], trail: &Trail<'_>) -> Result<(), U
     ensures { Gives (λ _. tt) result (object_of (length keys.now) (view value.now)) }
 {
     match value.as_object() {
-        Some(members) if members.len() == keys.len() => Ok(()),
-        Some(members) => Err(Unread::NoForm(trail.other_keys(members, keys))),
+        Some(members) => {
+            if members.len() == keys.len() {
+                Ok(())
+            } else {
+                Err(Unread::NoForm(trail.other_keys(members, keys)))
+            }
+        }
         None => Err(Unread::NoForm(trail.is_no(value, "object"))),
     }
 }
@@ -159,11 +164,15 @@ pub fn wholes_of(alloc: Global, value: &Value, trail: &Trail<'_>) -> Result<Seq<
 pub fn pair_of_wholes(value: &Value, trail: &Trail<'_>) -> Result<(usize, usize), Unread>
     ensures { Gives (λ p. p) result (pair_of whole_spec whole_spec (view value.now)) }
 {
-    match array_of(value, trail)?.as_slice() {
+    let items = array_of(value, trail)?.as_slice();
+    if items.len() != 2 {
+        return Err(Unread::NoForm(trail.is_no(value, "list of two whole numbers")));
+    }
+    match items {
         [first, second] => Ok((
             whole_of(first, &Trail::Item(trail, 0))?,
             whole_of(second, &Trail::Item(trail, 1))?,
         )),
-        _ => Err(Unread::NoForm(trail.is_no(value, "list of two whole numbers"))),
+        _ => unreachable!(),
     }
 }

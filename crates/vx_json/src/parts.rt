@@ -1,9 +1,8 @@
 //! Parts out of JSON.
 ghost use Rattle.std.specs.Prelude.{◌≡◌};
 ghost use Rattle.serde_json.specs.View.{view};
-ghost use Rattle.vx_json.specs.Forms.{◌>>=◌, Gives, list_of, null_or};
+ghost use Rattle.vx_json.specs.Forms.{Gives, list_of, null_or};
 ghost use Rattle.vx_json.specs.Parts as spec;
-ghost use Rattle.vx_json.specs.Rows.{row_of as row_spec};
 
 use crate::forms::{Unread, array_of, field, has_field, has_keys, whole_of};
 use crate::reason::Trail;
@@ -79,14 +78,13 @@ const KEYS: [&str; 18] = [
 ];
 
 /// Flat rows of a type, of which each has to fit it.
-#[tactic(auto, using(crate::proofs::Fitted::fitted_rows, crate::proofs::Fitted::unfitted_rows))]
 fn column_of(
     alloc: Global,
     dtype: DType,
     items: &Value,
     trail: &Trail<'_>,
 ) -> Result<FlatColumn, Unread>
-    ensures { Gives (λ c. c) result (list_of (row_spec dtype) (view items.now) >>= spec.fitted dtype) }
+    ensures { Gives (λ c. c) result (spec.fitted_rows dtype (view items.now)) }
 {
     let rows = rows_of(alloc, &dtype, items, trail)?;
     match FlatColumn::try_new(alloc, dtype, rows) {

@@ -107,12 +107,16 @@ fn nullability_of(value: &Value, trail: &Trail<'_>) -> Result<Nullability, Unrea
 fn sizes_of(value: &Value, trail: &Trail<'_>) -> Result<(usize, i128), Unread>
     ensures { Gives (λ p. p) result (pair_of whole_spec integer_spec (view value.now)) }
 {
-    match array_of(value, trail)?.as_slice() {
+    let items = array_of(value, trail)?.as_slice();
+    if items.len() != 2 {
+        return Err(Unread::NoForm(trail.is_no(value, "list of two numbers, precision and scale")));
+    }
+    match items {
         [first, second] => Ok((
             whole_of(first, &Trail::Item(trail, 0))?,
             integer_of(second, &Trail::Item(trail, 1))?,
         )),
-        _ => Err(Unread::NoForm(trail.is_no(value, "list of two numbers, precision and scale"))),
+        _ => unreachable!(),
     }
 }
 
