@@ -42,7 +42,7 @@ pub(crate) fn chunks_of(
 ) -> io::Result<Res<Opened>> {
     let parts = parts_of(rt.alloc(), parts)?;
     match dtype {
-        Some(dtype) => Ok(of_type(rt, parts.as_slice(), type_of(dtype)?)),
+        Some(dtype) => Ok(of_type(rt, parts.as_slice(), type_of(rt.alloc(), dtype)?)),
         None => Ok(of_first_type(rt, parts.as_slice())),
     }
 }

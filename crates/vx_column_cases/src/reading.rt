@@ -4,21 +4,25 @@ use std::alloc::Global;
 use std::io;
 use vx_base::DType;
 use vx_job::Part;
-use vx_json::{parts, types};
+use vx_json::{Trail, parts, types};
 
 /// The part that a value says.
 pub(crate) fn part_of(alloc: Global, value: &Value) -> io::Result<Part> {
-    parts::part_of(alloc, value).map_err(|_| io::Error::other("a part has no form"))
+    parts::part_of(alloc, value, &Trail::Whole(alloc)).map_err(|_| io::Error::other(
+        "a part has no form",
+    ))
 }
 
 /// The parts that a value says.
 pub(crate) fn parts_of(alloc: Global, value: &Value) -> io::Result<Vec<Part>> {
-    parts::parts_of(alloc, value).map_err(|_| io::Error::other("parts have no form"))
+    parts::parts_of(alloc, value, &Trail::Whole(alloc)).map_err(|_| io::Error::other(
+        "parts have no form",
+    ))
 }
 
 /// The type that a value says.
-pub(crate) fn type_of(value: &Value) -> io::Result<DType> {
-    types::type_of(value).map_err(|_| io::Error::other("a type has no form"))
+pub(crate) fn type_of(alloc: Global, value: &Value) -> io::Result<DType> {
+    types::type_of(value, &Trail::Whole(alloc)).map_err(|_| io::Error::other("a type has no form"))
 }
 
 /// The numbers that a value says.

@@ -25,14 +25,14 @@ pub(crate) fn types_of(alloc: Global, value: &Value) -> io::Result<ChunkTypes> {
     };
     let mut types = Vec::new(alloc);
     for value in values {
-        types.push(type_of(value)?)?;
+        types.push(type_of(alloc, value)?)?;
     }
     Ok(ChunkTypes { types })
 }
 
 impl ChunkTypes {
     fn is_valid(&self, alloc: Global, value: &Value) -> Res<String> {
-        let Ok(dtype) = type_of(value) else {
+        let Ok(dtype) = type_of(alloc, value) else {
             return Ok(String::from_str(alloc, "no type")?);
         };
         ChunkedData::validate(self.types.as_slice(), &dtype)?;

@@ -2,3 +2,4 @@ pub mod Readings
 pub mod Members
 pub mod Numerals
 pub mod Jobs
+pub mod Fitted

@@ -60,7 +60,7 @@ pub list_fails : {X : Type 0} (f : Data → Option X) (d : Data) (vs : List Valu
     (e : Unread)
     → as_array d ≡ Some (items_view vs) → i < length vs → v ≡ get_or vs i v → Fails e (f (view v))
     → Fails e (list_of f d)
-list_fails f d vs i v NoForm is lt at h =
+list_fails f d vs i v (NoForm reason) is lt at h =
     rw is (all_items-none f vs i v lt (ap (λ u. f (view u)) (sym at) ∙ h))
 list_fails f d vs i v OutOfMemory is lt at h = tt
 

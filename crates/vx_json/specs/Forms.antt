@@ -15,7 +15,7 @@ None >>= f = None
 
 -- what a failure says of a reading: it has no value, or memory ran out
 abbrev pub Fails : {Y : Type 0} → Unread → Option Y → Type 0
-Fails NoForm reading = reading ≡ None
+Fails (NoForm reason) reading = reading ≡ None
 Fails OutOfMemory reading = Unit {0}
 
 -- what a function returned, seen by `seen`, is what the reading gives, unless memory ran out

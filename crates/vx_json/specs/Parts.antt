@@ -5,7 +5,7 @@ use Rattle.std.specs.Ordering.{nat_cmp, match_ordering}
 use Rattle.serde_json.specs.Data.{Data, null, boolean, number, string, array, object}
 use Rattle.serde_json.specs.Data.{Items, no_items, item, Members, no_members, member}
 use Rattle.serde_json.specs.Find.{get}
-use Rattle.vx_rows.specs.Fits.{rows_fit, row_fits}
+use Rattle.vx_rows.specs.Fits.{rows_fit}
 use Rattle.vx_rows.specs.declared.dtype.DType.{DType}
 use Rattle.vx_rows.specs.declared.value.Value.{Value}
 use Rattle.vx_base.specs.Column.{Flat as FlatRows, flat}
@@ -14,15 +14,15 @@ use Rattle.vx_json.specs.declared.parts.Tag.{Tag}
 use Rattle.vx_json.specs.declared.parts.Tag.TheVariants as tag
 use Rattle.vx_json.specs.Forms.{◌>>=◌, has, object_of, list_of, whole_of, null_or}
 use Rattle.vx_json.specs.Types.{type_of}
-use Rattle.vx_json.specs.Rows.{row_of}
+use Rattle.vx_json.specs.Rows.{row_of, fitted_row}
 
 -- rows of a type, where each fits
 abbrev pub fitted : DType → List (Option Value) → Option FlatRows
 fitted t rows = if rows_fit t rows then Some (flat t rows) else None
 
--- a row of a type, where it fits
-abbrev pub fitted_row : DType → Option Value → Option (Option Value)
-fitted_row t row = if row_fits t row then Some row else None
+-- a list of rows of a type, where each fits
+abbrev pub fitted_rows : DType → Data → Option FlatRows
+fitted_rows t d = list_of (row_of t) d >>= fitted t
 
 -- `{"flat":T,"rows":[row]}`
 unfoldable pub flat_form : Data → Option FlatRows

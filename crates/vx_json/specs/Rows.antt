@@ -1,10 +1,11 @@
 -- The rows that JSON values are, by type.
-use Rattle.std.specs.Prelude.{Option, Some, None}
+use Rattle.std.specs.Prelude.{if◌then◌else◌, Option, Some, None}
 use Rattle.serde_json.specs.Data.{Data}
 use Rattle.serde_json.specs.Find.{as_bool, as_str}
 use Rattle.vx_rows.specs.declared.dtype.DType.{DType, out-DType}
 use Rattle.vx_rows.specs.declared.dtype.DType.TheOpen.{DType-F}
 use Rattle.vx_rows.specs.declared.value.Value.{Value, Bool, Int, Decimal, Utf8, Binary}
+use Rattle.vx_rows.specs.Fits.{row_fits}
 use Rattle.vx_json.specs.Forms.{◌>>=◌, integer_of, null_or}
 use Rattle.vx_json.specs.Texts.{unscaled_of, bytes_of}
 
@@ -33,3 +34,11 @@ value_of t d = layer_value (out-DType t) d
 -- a row by its type: `null`, or a value of the type's kind
 abbrev pub row_of : DType → Data → Option (Option Value)
 row_of t d = null_or (value_of t) d
+
+-- a row of a type, where it fits
+abbrev pub fitted_row : DType → Option Value → Option (Option Value)
+fitted_row t row = if row_fits t row then Some row else None
+
+-- a row by its type that fits it
+abbrev pub fitting_row : DType → Data → Option (Option Value)
+fitting_row t d = row_of t d >>= fitted_row t

@@ -1,21 +1,44 @@
 //! Readers of what JSON forms are made of.
-ghost use Rattle.std.specs.Prelude.{◌≡◌};
+ghost use Rattle.std.specs.Prelude.{◌≡◌, length, MatchOption};
 ghost use Rattle.serde_json.specs.Find.{get, as_array, as_str, as_bool};
 ghost use Rattle.serde_json.specs.View.{view, items_view};
 ghost use Rattle.vx_json.specs.Forms.{Gives, has, object_of, whole_of as whole_spec, integer_of as integer_spec};
 ghost use Rattle.vx_json.specs.Forms.{list_of, pair_of};
 
+use crate::reason::{Reason, Trail};
 use serde_json::Value;
 use std::alloc::{AllocError, AllocFailed, Global};
 use vx_rows::Seq;
 
 /// Why a value was not read.
-#[derive(Clone, Copy, Debug, PartialEq, Eq, Drop)]
+#[derive(Debug)]
 pub enum Unread {
-    /// It hasn't the form.
-    NoForm,
+    /// It hasn't the form, for this reason.
+    NoForm(Reason),
     /// There was no memory left.
     OutOfMemory,
+}
+
+// Written out, so that letting it go is one call at each way out of a form.
+impl Drop for Unread {
+    fn drop(self) {
+        match self {
+            Unread::NoForm(_reason) => {}
+            Unread::OutOfMemory => {}
+        }
+    }
+}
+
+impl Unread {
+    /// The reason why a value hasn't the form. There is none where memory ran out.
+    pub fn into_reason(self) -> Option<Reason>
+        ensures { MatchOption result (self ≡ Unread.OutOfMemory) (λ reason. self ≡ Unread.NoForm reason) }
+    {
+        match self {
+            Unread::NoForm(reason) => Some(reason),
+            Unread::OutOfMemory => None,
+        }
+    }
 }
 
 impl From<AllocError> for Unread {
@@ -40,21 +63,30 @@ impl<T: Drop> From<AllocFailed<T>> for Unread {
     }
 }
 
-/// Refuses all but an object of so many members.
-pub fn has_len(value: &Value, len: usize) -> Result<(), Unread>
-    ensures { Gives (λ _. tt) result (object_of len (view value.now)) }
+/// Refuses all but an object of as many members as there are keys.
+pub fn has_keys(value: &Value, keys: &[&str], trail: &Trail<'_>) -> Result<(), Unread>
+    ensures { Gives (λ _. tt) result (object_of (length keys.now) (view value.now)) }
 {
     match value.as_object() {
-        Some(map) if map.len() == len => Ok(()),
-        _ => Err(Unread::NoForm),
+        Some(members) => {
+            if members.len() == keys.len() {
+                Ok(())
+            } else {
+                Err(Unread::NoForm(trail.other_keys(members, keys)))
+            }
+        }
+        None => Err(Unread::NoForm(trail.is_no(value, "object"))),
     }
 }
 
 /// The member of this name.
-pub fn field<'v>(value: &'v Value, name: &str) -> Result<&'v Value, Unread>
+pub fn field<'v>(value: &'v Value, name: &str, trail: &Trail<'_>) -> Result<&'v Value, Unread>
     ensures { Gives (λ v. view v.now) result (get name.now (view value.now)) }
 {
-    value.get(name).ok_or(Unread::NoForm)
+    match value.get(name) {
+        Some(member) => Ok(member),
+        None => Err(Unread::NoForm(trail.missing_key(name))),
+    }
 }
 
 /// Whether it is an object with a member of this name.
@@ -65,64 +97,82 @@ pub fn has_field(value: &Value, name: &str) -> bool
 }
 
 /// A list of any values.
-pub fn array_of(value: &Value) -> Result<&Vec<Value>, Unread>
+pub fn array_of<'v>(value: &'v Value, trail: &Trail<'_>) -> Result<&'v Vec<Value>, Unread>
     ensures { Gives (λ v. items_view v.now.items) result (as_array (view value.now)) }
 {
-    value.as_array().ok_or(Unread::NoForm)
+    match value.as_array() {
+        Some(items) => Ok(items),
+        None => Err(Unread::NoForm(trail.is_no(value, "list"))),
+    }
 }
 
 /// A text.
-pub fn text_of(value: &Value) -> Result<&str, Unread>
+pub fn text_of<'v>(value: &'v Value, trail: &Trail<'_>) -> Result<&'v str, Unread>
     ensures { Gives (λ s. s.now) result (as_str (view value.now)) }
 {
-    value.as_str().ok_or(Unread::NoForm)
+    match value.as_str() {
+        Some(text) => Ok(text),
+        None => Err(Unread::NoForm(trail.is_no(value, "text"))),
+    }
 }
 
 /// A boolean.
-pub fn bool_of(value: &Value) -> Result<bool, Unread>
+pub fn bool_of(value: &Value, trail: &Trail<'_>) -> Result<bool, Unread>
     ensures { Gives (λ b. b) result (as_bool (view value.now)) }
 {
-    value.as_bool().ok_or(Unread::NoForm)
+    match value.as_bool() {
+        Some(flag) => Ok(flag),
+        None => Err(Unread::NoForm(trail.is_no(value, "boolean"))),
+    }
 }
 
 /// A whole number that isn't negative.
-pub fn whole_of(value: &Value) -> Result<usize, Unread>
+pub fn whole_of(value: &Value, trail: &Trail<'_>) -> Result<usize, Unread>
     ensures { Gives (λ n. n) result (whole_spec (view value.now)) }
 {
     match value.as_u64() {
         Some(number) => Ok(number as usize),
-        None => Err(Unread::NoForm),
+        None => Err(Unread::NoForm(trail.is_no(value, "whole number from 0 to 2^64 - 1"))),
     }
 }
 
 /// A whole number of either sign.
-pub fn integer_of(value: &Value) -> Result<i128, Unread>
+pub fn integer_of(value: &Value, trail: &Trail<'_>) -> Result<i128, Unread>
     ensures { Gives (λ z. z) result (integer_spec (view value.now)) }
 {
-    match value {
-        Value::Number(number) => number.as_i128().ok_or(Unread::NoForm),
-        _ => Err(Unread::NoForm),
+    if let Value::Number(number) = value
+        && let Some(integer) = number.as_i128()
+    {
+        return Ok(integer);
     }
+    Err(Unread::NoForm(trail.is_no(value, "whole number from -2^63 to 2^64 - 1")))
 }
 
 /// A list of whole numbers.
-pub fn wholes_of(alloc: Global, value: &Value) -> Result<Seq<usize>, Unread>
+pub fn wholes_of(alloc: Global, value: &Value, trail: &Trail<'_>) -> Result<Seq<usize>, Unread>
     ensures { Gives (λ v. v) result (list_of whole_spec (view value.now)) }
 {
-    let items = array_of(value)?;
+    let items = array_of(value, trail)?;
     let mut numbers = Vec::with_capacity(alloc, items.len())?;
     for item in items {
-        numbers.push(whole_of(item)?)?;
+        numbers.push(whole_of(item, &Trail::Item(trail, numbers.len()))?)?;
     }
     Ok(Seq::from_vec(numbers))
 }
 
 /// Two whole numbers.
-pub fn pair_of_wholes(value: &Value) -> Result<(usize, usize), Unread>
+pub fn pair_of_wholes(value: &Value, trail: &Trail<'_>) -> Result<(usize, usize), Unread>
     ensures { Gives (λ p. p) result (pair_of whole_spec whole_spec (view value.now)) }
 {
-    match array_of(value)?.as_slice() {
-        [first, second] => Ok((whole_of(first)?, whole_of(second)?)),
-        _ => Err(Unread::NoForm),
+    let items = array_of(value, trail)?.as_slice();
+    if items.len() != 2 {
+        return Err(Unread::NoForm(trail.is_no(value, "list of two whole numbers")));
+    }
+    match items {
+        [first, second] => Ok((
+            whole_of(first, &Trail::Item(trail, 0))?,
+            whole_of(second, &Trail::Item(trail, 1))?,
+        )),
+        _ => unreachable!(),
     }
 }

@@ -5,11 +5,13 @@ pub mod bytes;
 pub mod forms;
 pub mod job;
 pub mod parts;
+pub mod reason;
 pub mod rows;
 pub mod steps;
 pub mod texts;
 pub mod types;
 
-pub use bytes::parse_job;
+pub use bytes::{parse_job, read_job};
 pub use forms::Unread;
 pub use job::job_of;
+pub use reason::{Reason, Trail};

@@ -4,15 +4,15 @@ ghost use Rattle.serde_json.specs.View.{view};
 ghost use Rattle.vx_json.specs.Forms.{Gives, list_of, null_or};
 ghost use Rattle.vx_json.specs.Parts as spec;
 
-use crate::forms::{Unread, array_of, field, has_field, has_len, whole_of};
-use crate::rows::{row_of, rows_of};
+use crate::forms::{Unread, array_of, field, has_field, has_keys, whole_of};
+use crate::reason::Trail;
+use crate::rows::{check_row, row_of, rows_of};
 use crate::types::type_of;
 use serde_json::Value;
 use std::alloc::Global;
 use vx_base::FlatColumn;
 use vx_job::{Boxed, Part};
-use vx_rows::fits::row_fits;
-use vx_rows::{ColumnError, DType, Row, Seq};
+use vx_rows::{DType, Seq};
 
 /// The forms of parts, each known by a key that no other has.
 #[derive(Clone, Copy, Debug, PartialEq, Eq, Drop)]
@@ -45,111 +45,160 @@ fn tag_of(value: &Value) -> Option<Tag>
     }
 }
 
-fn fitted(alloc: Global, dtype: DType, rows: Seq<Row>) -> Result<FlatColumn, Unread>
-    ensures { Gives (λ c. c) result (spec.fitted dtype rows) }
+/// The keys that name the forms of parts.
+const TAGS: [&str; 6] = [
+    "flat",
+    "constant",
+    "chunked",
+    "lanes",
+    "excepted",
+    "interleaved",
+];
+
+/// The keys that parts may have.
+const KEYS: [&str; 18] = [
+    "flat",
+    "rows",
+    "constant",
+    "row",
+    "len",
+    "chunked",
+    "chunks",
+    "lanes",
+    "n_lanes",
+    "offset",
+    "lane_offsets",
+    "indices",
+    "values",
+    "excepted",
+    "chunk_offsets",
+    "interleaved",
+    "array_indices",
+    "row_indices",
+];
+
+/// Flat rows of a type, of which each has to fit it.
+fn column_of(
+    alloc: Global,
+    dtype: DType,
+    items: &Value,
+    trail: &Trail<'_>,
+) -> Result<FlatColumn, Unread>
+    ensures { Gives (λ c. c) result (spec.fitted_rows dtype (view items.now)) }
 {
+    let rows = rows_of(alloc, &dtype, items, trail)?;
     match FlatColumn::try_new(alloc, dtype, rows) {
         Ok(column) => Ok(column),
-        Err(ColumnError::OutOfMemory) => Err(Unread::OutOfMemory),
-        Err(_) => Err(Unread::NoForm),
-    }
-}
-
-fn check_row(dtype: &DType, row: &Row) -> Result<(), Unread>
-    ensures { Gives (λ _. row.now) result (spec.fitted_row dtype.now row.now) }
-{
-    if row_fits(dtype, row) {
-        Ok(())
-    } else {
-        Err(Unread::NoForm)
+        // Each row was found to fit, so nothing else can be wrong.
+        Err(_) => Err(Unread::OutOfMemory),
     }
 }
 
 /// Flat rows, of which each has to fit the type.
 #[tactic(auto, unfolding(crate::specs::Parts::flat_form))]
-pub fn flat_of(alloc: Global, value: &Value) -> Result<FlatColumn, Unread>
+pub fn flat_of(alloc: Global, value: &Value, trail: &Trail<'_>) -> Result<FlatColumn, Unread>
     ensures { Gives (λ c. c) result (spec.flat_form (view value.now)) }
 {
-    has_len(value, 2)?;
-    let kind = field(value, "flat")?;
-    let items = field(value, "rows")?;
-    let dtype = type_of(kind)?;
-    let rows = rows_of(alloc, &dtype, items)?;
-    fitted(alloc, dtype, rows)
+    has_keys(value, &["flat", "rows"], trail)?;
+    let kind = field(value, "flat", trail)?;
+    let items = field(value, "rows", trail)?;
+    let dtype = type_of(kind, &Trail::Member(trail, "flat"))?;
+    column_of(alloc, dtype, items, &Trail::Member(trail, "rows"))
 }
 
 /// Flat rows, or `null` where there are none.
-fn flat_or_null(alloc: Global, value: &Value) -> Result<Option<FlatColumn>, Unread>
+fn flat_or_null(
+    alloc: Global,
+    value: &Value,
+    trail: &Trail<'_>,
+) -> Result<Option<FlatColumn>, Unread>
     ensures { Gives (λ c. c) result (null_or spec.flat_form (view value.now)) }
 {
     if value.is_null() {
         return Ok(None);
     }
-    Ok(Some(flat_of(alloc, value)?))
+    Ok(Some(flat_of(alloc, value, trail)?))
 }
 
 #[tactic(auto, unfolding(crate::specs::Parts::constant_form))]
-fn constant_of(alloc: Global, value: &Value) -> Result<Part, Unread>
+fn constant_of(alloc: Global, value: &Value, trail: &Trail<'_>) -> Result<Part, Unread>
     ensures { Gives (λ p. p) result (spec.constant_form (view value.now)) }
 {
-    has_len(value, 3)?;
-    let kind = field(value, "constant")?;
-    let item = field(value, "row")?;
-    let count = field(value, "len")?;
-    let dtype = type_of(kind)?;
-    let row = row_of(alloc, &dtype, item)?;
-    check_row(&dtype, &row)?;
-    let len = whole_of(count)?;
+    has_keys(value, &["constant", "row", "len"], trail)?;
+    let kind = field(value, "constant", trail)?;
+    let item = field(value, "row", trail)?;
+    let count = field(value, "len", trail)?;
+    let dtype = type_of(kind, &Trail::Member(trail, "constant"))?;
+    let row_trail = Trail::Member(trail, "row");
+    let row = row_of(alloc, &dtype, item, &row_trail)?;
+    check_row(&dtype, &row, item, &row_trail)?;
+    let len = whole_of(count, &Trail::Member(trail, "len"))?;
     Ok(Part::Constant { dtype, row, len })
 }
 
 /// The part that the member of this name is.
 #[cycle(parts)]
-fn part_in(alloc: Global, value: &Value, name: &str) -> Result<Part, Unread>
+fn part_in(alloc: Global, value: &Value, name: &str, trail: &Trail<'_>) -> Result<Part, Unread>
     ensures { Gives (λ p. p) result (spec.part_under (view value.now) name.now) }
 {
-    let child = field(value, name)?;
-    part_of(alloc, child)
+    let child = field(value, name, trail)?;
+    part_of(alloc, child, &Trail::Member(&*trail, &*name))
 }
 
 /// The list of parts that the member of this name is.
 #[cycle(parts)]
-fn parts_in(alloc: Global, value: &Value, name: &str) -> Result<Seq<Part>, Unread>
+fn parts_in(
+    alloc: Global,
+    value: &Value,
+    name: &str,
+    trail: &Trail<'_>,
+) -> Result<Seq<Part>, Unread>
     ensures { Gives (λ ps. ps) result (spec.parts_under (view value.now) name.now) }
 {
-    let child = field(value, name)?;
-    Ok(Seq::from_vec(parts_of(alloc, child)?))
+    let child = field(value, name, trail)?;
+    Ok(Seq::from_vec(parts_of(alloc, child, &Trail::Member(&*trail, &*name))?))
 }
 
 #[cycle(parts)]
 #[tactic(auto, unfolding(crate::specs::Parts::chunked_form))]
-fn chunked_of(alloc: Global, value: &Value) -> Result<Part, Unread>
+fn chunked_of(alloc: Global, value: &Value, trail: &Trail<'_>) -> Result<Part, Unread>
     ensures { Gives (λ p. p) result (spec.chunked_form (spec.parts_under (view value.now)) (view value.now)) }
 {
-    has_len(value, 2)?;
-    let kind = field(value, "chunked")?;
-    let dtype = type_of(kind)?;
-    let chunks = parts_in(alloc, value, "chunks")?;
+    has_keys(value, &["chunked", "chunks"], trail)?;
+    let kind = field(value, "chunked", trail)?;
+    let dtype = type_of(kind, &Trail::Member(&*trail, "chunked"))?;
+    let chunks = parts_in(alloc, value, "chunks", trail)?;
     Ok(Part::Chunked { dtype, chunks })
 }
 
 #[cycle(parts)]
 #[tactic(auto, unfolding(crate::specs::Parts::lanes_form))]
-fn lanes_of(alloc: Global, value: &Value) -> Result<Part, Unread>
+fn lanes_of(alloc: Global, value: &Value, trail: &Trail<'_>) -> Result<Part, Unread>
     ensures { Gives (λ p. p) result (spec.lanes_form (spec.part_under (view value.now)) (view value.now)) }
 {
-    has_len(value, 6)?;
-    let lane_count = field(value, "n_lanes")?;
-    let shift = field(value, "offset")?;
-    let offsets_part = field(value, "lane_offsets")?;
-    let indices_part = field(value, "indices")?;
-    let values_part = field(value, "values")?;
-    let n_lanes = whole_of(lane_count)?;
-    let offset = whole_of(shift)?;
-    let lane_offsets = flat_of(alloc, offsets_part)?;
-    let indices = flat_of(alloc, indices_part)?;
-    let values = flat_of(alloc, values_part)?;
-    let inner = part_in(alloc, value, "lanes")?;
+    has_keys(
+        value,
+        &[
+            "lanes",
+            "n_lanes",
+            "offset",
+            "lane_offsets",
+            "indices",
+            "values",
+        ],
+        trail,
+    )?;
+    let lane_count = field(value, "n_lanes", trail)?;
+    let shift = field(value, "offset", trail)?;
+    let offsets_part = field(value, "lane_offsets", trail)?;
+    let indices_part = field(value, "indices", trail)?;
+    let values_part = field(value, "values", trail)?;
+    let n_lanes = whole_of(lane_count, &Trail::Member(&*trail, "n_lanes"))?;
+    let offset = whole_of(shift, &Trail::Member(&*trail, "offset"))?;
+    let lane_offsets = flat_of(alloc, offsets_part, &Trail::Member(&*trail, "lane_offsets"))?;
+    let indices = flat_of(alloc, indices_part, &Trail::Member(&*trail, "indices"))?;
+    let values = flat_of(alloc, values_part, &Trail::Member(&*trail, "values"))?;
+    let inner = part_in(alloc, value, "lanes", trail)?;
     Ok(Part::Lanes {
         inner: Boxed::new(alloc, inner)?,
         n_lanes,
@@ -162,18 +211,26 @@ fn lanes_of(alloc: Global, value: &Value) -> Result<Part, Unread>
 
 #[cycle(parts)]
 #[tactic(auto, unfolding(crate::specs::Parts::excepted_form))]
-fn excepted_of(alloc: Global, value: &Value) -> Result<Part, Unread>
+fn excepted_of(alloc: Global, value: &Value, trail: &Trail<'_>) -> Result<Part, Unread>
     ensures { Gives (λ p. p) result (spec.excepted_form (spec.part_under (view value.now)) (view value.now)) }
 {
-    has_len(value, 5)?;
-    let shift = field(value, "offset")?;
-    let indices_part = field(value, "indices")?;
-    let offsets_part = field(value, "chunk_offsets")?;
-    let offset = whole_of(shift)?;
-    let indices = flat_of(alloc, indices_part)?;
-    let chunk_offsets = flat_or_null(alloc, offsets_part)?;
-    let base = part_in(alloc, value, "excepted")?;
-    let values = part_in(alloc, value, "values")?;
+    has_keys(
+        value,
+        &["excepted", "offset", "indices", "values", "chunk_offsets"],
+        trail,
+    )?;
+    let shift = field(value, "offset", trail)?;
+    let indices_part = field(value, "indices", trail)?;
+    let offsets_part = field(value, "chunk_offsets", trail)?;
+    let offset = whole_of(shift, &Trail::Member(&*trail, "offset"))?;
+    let indices = flat_of(alloc, indices_part, &Trail::Member(&*trail, "indices"))?;
+    let chunk_offsets = flat_or_null(
+        alloc,
+        offsets_part,
+        &Trail::Member(&*trail, "chunk_offsets"),
+    )?;
+    let base = part_in(alloc, value, "excepted", trail)?;
+    let values = part_in(alloc, value, "values", trail)?;
     Ok(Part::Excepted {
         base: Boxed::new(alloc, base)?,
         offset,
@@ -185,15 +242,19 @@ fn excepted_of(alloc: Global, value: &Value) -> Result<Part, Unread>
 
 #[cycle(parts)]
 #[tactic(auto, unfolding(crate::specs::Parts::interleaved_form))]
-fn interleaved_of(alloc: Global, value: &Value) -> Result<Part, Unread>
+fn interleaved_of(alloc: Global, value: &Value, trail: &Trail<'_>) -> Result<Part, Unread>
     ensures { Gives (λ p. p) result (spec.interleaved_form (spec.parts_under (view value.now)) (view value.now)) }
 {
-    has_len(value, 3)?;
-    let arrays_part = field(value, "array_indices")?;
-    let rows_part = field(value, "row_indices")?;
-    let array_indices = flat_of(alloc, arrays_part)?;
-    let row_indices = flat_of(alloc, rows_part)?;
-    let values = parts_in(alloc, value, "interleaved")?;
+    has_keys(
+        value,
+        &["interleaved", "array_indices", "row_indices"],
+        trail,
+    )?;
+    let arrays_part = field(value, "array_indices", trail)?;
+    let rows_part = field(value, "row_indices", trail)?;
+    let array_indices = flat_of(alloc, arrays_part, &Trail::Member(&*trail, "array_indices"))?;
+    let row_indices = flat_of(alloc, rows_part, &Trail::Member(&*trail, "row_indices"))?;
+    let values = parts_in(alloc, value, "interleaved", trail)?;
     Ok(Part::Interleaved {
         values,
         array_indices,
@@ -203,13 +264,13 @@ fn interleaved_of(alloc: Global, value: &Value) -> Result<Part, Unread>
 
 /// A list of parts.
 #[cycle(parts)]
-pub fn parts_of(alloc: Global, value: &Value) -> Result<Vec<Part>, Unread>
+pub fn parts_of(alloc: Global, value: &Value, trail: &Trail<'_>) -> Result<Vec<Part>, Unread>
     ensures { Gives (λ v. v.items) result (list_of spec.part_of (view value.now)) }
 {
-    let items = array_of(value)?;
+    let items = array_of(value, trail)?;
     let mut parts = Vec::with_capacity(alloc, items.len())?;
     for item in items {
-        parts.push(part_of(alloc, item)?)?;
+        parts.push(part_of(alloc, item, &Trail::Item(&*trail, parts.len()))?)?;
     }
     Ok(parts)
 }
@@ -217,16 +278,16 @@ pub fn parts_of(alloc: Global, value: &Value) -> Result<Vec<Part>, Unread>
 /// A part. Parts nest as deep as the value does.
 #[cycle(parts)]
 #[tactic(auto, using(crate::proofs::Members::one_level))]
-pub fn part_of(alloc: Global, value: &Value) -> Result<Part, Unread>
+pub fn part_of(alloc: Global, value: &Value, trail: &Trail<'_>) -> Result<Part, Unread>
     ensures { Gives (λ p. p) result (spec.part_of (view value.now)) }
 {
     match tag_of(value) {
-        None => Err(Unread::NoForm),
-        Some(Tag::Flat) => Ok(Part::Flat(flat_of(alloc, value)?)),
-        Some(Tag::Constant) => constant_of(alloc, value),
-        Some(Tag::Chunked) => chunked_of(alloc, value),
-        Some(Tag::Lanes) => lanes_of(alloc, value),
-        Some(Tag::Excepted) => excepted_of(alloc, value),
-        Some(Tag::Interleaved) => interleaved_of(alloc, value),
+        None => Err(Unread::NoForm(trail.untagged(value, &TAGS, &KEYS))),
+        Some(Tag::Flat) => Ok(Part::Flat(flat_of(alloc, value, trail)?)),
+        Some(Tag::Constant) => constant_of(alloc, value, trail),
+        Some(Tag::Chunked) => chunked_of(alloc, value, trail),
+        Some(Tag::Lanes) => lanes_of(alloc, value, trail),
+        Some(Tag::Excepted) => excepted_of(alloc, value, trail),
+        Some(Tag::Interleaved) => interleaved_of(alloc, value, trail),
     }
 }

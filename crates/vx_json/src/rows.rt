@@ -6,16 +6,18 @@ ghost use Rattle.vx_json.specs.Forms.{Gives, list_of};
 ghost use Rattle.vx_json.specs.Rows as spec;
 
 use crate::forms::{Unread, array_of, bool_of, integer_of, text_of};
+use crate::reason::{Reason, Trail};
 use crate::texts::{bytes_of, unscaled_of};
 use serde_json::Value as Json;
 use std::alloc::Global;
-use vx_rows::{ColumnError, DType, Row, Seq, Text, Value};
+use vx_rows::fits::row_fits;
+use vx_rows::{DType, PType, Row, Seq, Text, Value};
 
 /// A copy of a text.
-fn utf8_of(alloc: Global, value: &Json) -> Result<Text, Unread>
+fn utf8_of(alloc: Global, value: &Json, trail: &Trail<'_>) -> Result<Text, Unread>
     ensures { Gives (λ s. s) result (as_str (view value.now)) }
 {
-    let text = text_of(value)?;
+    let text = text_of(value, trail)?;
     match Text::from_str(alloc, text) {
         Ok(copy) => Ok(copy),
         Err(_) => Err(Unread::OutOfMemory),
@@ -23,55 +25,108 @@ fn utf8_of(alloc: Global, value: &Json) -> Result<Text, Unread>
 }
 
 /// A text that writes a number, unscaled.
-fn decimal_of(value: &Json) -> Result<Value, Unread>
+fn decimal_of(value: &Json, trail: &Trail<'_>) -> Result<Value, Unread>
     ensures { Gives (λ v. v) result (spec.decimal_of (view value.now)) }
 {
-    let text = text_of(value)?;
-    Ok(Value::Decimal(unscaled_of(text)?))
+    let text = text_of(value, trail)?;
+    Ok(Value::Decimal(unscaled_of(text, trail)?))
 }
 
 /// A text that writes bytes.
-fn binary_of(alloc: Global, value: &Json) -> Result<Value, Unread>
+fn binary_of(alloc: Global, value: &Json, trail: &Trail<'_>) -> Result<Value, Unread>
     ensures { Gives (λ v. v) result (spec.binary_of (view value.now)) }
 {
-    let text = text_of(value)?;
-    Ok(Value::Binary(bytes_of(alloc, text)?))
+    let text = text_of(value, trail)?;
+    Ok(Value::Binary(bytes_of(alloc, text, trail)?))
 }
 
 /// A value by its type. The values of lists and structs have no reading.
-fn value_of(alloc: Global, dtype: &DType, value: &Json) -> Result<Value, Unread>
+fn value_of(alloc: Global, dtype: &DType, value: &Json, trail: &Trail<'_>) -> Result<Value, Unread>
     ensures { Gives (λ v. v) result (spec.value_of dtype.now (view value.now)) }
 {
     match dtype {
-        DType::Bool(_) => Ok(Value::Bool(bool_of(value)?)),
-        DType::Primitive(_, _) => Ok(Value::Int(integer_of(value)?)),
-        DType::Decimal(_, _) => decimal_of(value),
-        DType::Utf8(_) => Ok(Value::Utf8(utf8_of(alloc, value)?)),
-        DType::Binary(_) => binary_of(alloc, value),
+        DType::Bool(_) => Ok(Value::Bool(bool_of(value, trail)?)),
+        DType::Primitive(_, _) => Ok(Value::Int(integer_of(value, trail)?)),
+        DType::Decimal(_, _) => decimal_of(value, trail),
+        DType::Utf8(_) => Ok(Value::Utf8(utf8_of(alloc, value, trail)?)),
+        DType::Binary(_) => binary_of(alloc, value, trail),
         DType::List(_, _) | DType::FixedSizeList(_, _, _) | DType::Struct(_, _) => {
-            Err(Unread::NoForm)
+            Err(Unread::NoForm(trail.wrong("rows of this type have no form")))
         }
     }
 }
 
 /// A row by its type: `null`, or a value of the type's kind. It need not lie within the type.
-pub fn row_of(alloc: Global, dtype: &DType, value: &Json) -> Result<Row, Unread>
+pub fn row_of(alloc: Global, dtype: &DType, value: &Json, trail: &Trail<'_>) -> Result<Row, Unread>
     ensures { Gives (λ r. r) result (spec.row_of dtype.now (view value.now)) }
 {
     if value.is_null() {
         return Ok(None);
     }
-    Ok(Some(value_of(alloc, dtype, value)?))
+    Ok(Some(value_of(alloc, dtype, value, trail)?))
 }
 
-/// A list of rows of a type.
-pub fn rows_of(alloc: Global, dtype: &DType, value: &Json) -> Result<Seq<Row>, Unread>
-    ensures { Gives (λ rs. rs) result (list_of (spec.row_of dtype.now) (view value.now)) }
+/// What a row of the type is called.
+fn kind_name(dtype: &DType) -> &'static str {
+    match dtype {
+        DType::Bool(_) => "bool",
+        DType::Primitive(PType::U8, _) => "u8",
+        DType::Primitive(PType::U16, _) => "u16",
+        DType::Primitive(PType::U32, _) => "u32",
+        DType::Primitive(PType::U64, _) => "u64",
+        DType::Primitive(PType::I8, _) => "i8",
+        DType::Primitive(PType::I16, _) => "i16",
+        DType::Primitive(PType::I32, _) => "i32",
+        DType::Primitive(PType::I64, _) => "i64",
+        DType::Decimal(_, _) => "decimal",
+        DType::Utf8(_) => "utf8",
+        DType::Binary(_) => "binary",
+        DType::List(_, _) | DType::FixedSizeList(_, _, _) => "list",
+        DType::Struct(_, _) => "struct",
+    }
+}
+
+/// Why a row of the type's kind doesn't fit it.
+fn misfit(dtype: &DType, value: &Json, trail: &Trail<'_>) -> Reason {
+    match dtype {
+        DType::Decimal(digits, _) => trail.too_long(value, digits.precision()),
+        _ => trail.is_no(value, kind_name(dtype)),
+    }
+}
+
+/// Refuses a row that doesn't fit its type, which was read from the value.
+pub fn check_row(dtype: &DType, row: &Row, value: &Json, trail: &Trail<'_>) -> Result<(), Unread>
+    ensures { Gives (λ _. row.now) result (spec.fitted_row dtype.now row.now) }
 {
-    let items = array_of(value)?;
+    if row_fits(dtype, row) {
+        Ok(())
+    } else {
+        Err(Unread::NoForm(misfit(dtype, value, trail)))
+    }
+}
+
+/// A row that fits its type.
+fn fitting_row(alloc: Global, dtype: &DType, value: &Json, trail: &Trail<'_>) -> Result<Row, Unread>
+    ensures { Gives (λ r. r) result (spec.fitting_row dtype.now (view value.now)) }
+{
+    let row = row_of(alloc, dtype, value, trail)?;
+    check_row(dtype, &row, value, trail)?;
+    Ok(row)
+}
+
+/// A list of rows of a type, each of which fits it.
+pub fn rows_of(
+    alloc: Global,
+    dtype: &DType,
+    value: &Json,
+    trail: &Trail<'_>,
+) -> Result<Seq<Row>, Unread>
+    ensures { Gives (λ rs. rs) result (list_of (spec.fitting_row dtype.now) (view value.now)) }
+{
+    let items = array_of(value, trail)?;
     let mut rows = Vec::with_capacity(alloc, items.len())?;
     for item in items {
-        rows.push(row_of(alloc, dtype, item)?)?;
+        rows.push(fitting_row(alloc, dtype, item, &Trail::Item(trail, rows.len()))?)?;
     }
     Ok(Seq::from_vec(rows))
 }

@@ -5,6 +5,7 @@ ghost use Rattle.vx_json.specs.Forms.{Gives};
 ghost use Rattle.vx_json.specs.Texts as spec;
 
 use crate::forms::Unread;
+use crate::reason::Trail;
 use hex::FromHexError;
 use std::alloc::Global;
 use vx_rows::Seq;
@@ -50,25 +51,31 @@ fn is_unscaled(text: &str) -> bool
 
 /// The number that a text writes without a leading zero, where 128 bits hold it.
 #[tactic(auto, using(crate::proofs::Numerals::unscaled_read, crate::proofs::Numerals::unscaled_over))]
-pub fn unscaled_of(text: &str) -> Result<i128, Unread>
+pub fn unscaled_of(text: &str, trail: &Trail<'_>) -> Result<i128, Unread>
     ensures { Gives (λ z. z) result (spec.unscaled_of text.now) }
 {
     if !is_unscaled(text) {
-        return Err(Unread::NoForm);
+        return Err(Unread::NoForm(trail.no_text(
+            text,
+            "decimal: expected \"0\", or digits without a leading zero, maybe behind a \"-\"",
+        )));
     }
     match text.parse::<i128>() {
         Ok(z) => Ok(z),
-        Err(_) => Err(Unread::NoForm),
+        Err(_) => Err(Unread::NoForm(trail.no_text(text, "decimal: it takes more than 128 bits"))),
     }
 }
 
 /// The bytes that a hexadecimal text writes, in either case.
-pub fn bytes_of(alloc: Global, text: &str) -> Result<Seq<u8>, Unread>
+pub fn bytes_of(alloc: Global, text: &str, trail: &Trail<'_>) -> Result<Seq<u8>, Unread>
     ensures { Gives (λ bytes. bytes) result (spec.bytes_of text.now) }
 {
     match hex::decode(alloc, text) {
         Ok(bytes) => Ok(Seq::from_vec(bytes)),
         Err(FromHexError::OutOfMemory) => Err(Unread::OutOfMemory),
-        Err(_) => Err(Unread::NoForm),
+        Err(_) => Err(Unread::NoForm(trail.no_text(
+            text,
+            "binary: expected hexadecimal digits, two a byte",
+        ))),
     }
 }

@@ -2,11 +2,13 @@
 #![tactic(auto)]
 
 pub mod command;
+pub mod note;
 pub mod reply;
 pub mod run;
 pub mod status;
 
-pub use run::run_job;
+pub use note::Note;
+pub use run::{run_job, run_noted};
 pub use status::Status;
 pub use vx_ends::{Failed, Sink, SinkError, Source, StdinSource, StdoutSink, SureSink, SureSource};
 pub use vx_job::Job;

@@ -1,5 +1,5 @@
 //! From a job to the text that answers it.
-ghost use Rattle.std.specs.Prelude.{◌≡◌, ◌≤◌, IfOk, IsOkUnless, MatchOption};
+ghost use Rattle.std.specs.Prelude.{◌≡◌, ◌≤◌, IfOk, IsOkUnless, MatchResult};
 ghost use Rattle.vx_job.specs.JobView.{job_view};
 ghost use Rattle.vx_json.specs.Bytes.{HasNoJob};
 ghost use Rattle.vx_tool.specs.Reply.{Answers};
@@ -8,7 +8,7 @@ ghost use Rattle.vx_tool.specs.Outcome.{AnswersBytes};
 use std::alloc::Global;
 use vx_base::{ColumnError, Ledger, Res, Seq, Steps};
 use vx_job::Job;
-use vx_json::parse_job;
+use vx_json::{Reason, read_job};
 use vx_pages::{page_line, refusal_line};
 use vx_plan::run_plan;
 
@@ -21,18 +21,21 @@ pub enum Reply {
     Refusal(Seq<u8>),
 }
 
-/// The reply to the bytes of a job. Bytes that are no job have none.
-pub fn reply_to<L: Ledger>(alloc: Global, bytes: &[u8], steps: &mut Steps<L>) -> Res<Option<Reply>>
-    ensures ok { IfOk result (λ found. MatchOption found (HasNoJob bytes.now)
-        (λ reply. AnswersBytes bytes.now reply steps.old steps.new)) }
+/// The reply to the bytes of a job, or why they are none.
+pub fn reply_to<L: Ledger>(
+    alloc: Global,
+    bytes: &[u8],
+    steps: &mut Steps<L>,
+) -> Res<Result<Reply, Reason>>
+    ensures ok { IfOk result (λ read. MatchResult read
+        (λ reply. AnswersBytes bytes.now reply steps.old steps.new) (λ _. HasNoJob bytes.now)) }
     ensures err { IsOkUnless result ColumnError.OutOfMemory }
     ensures monotone { steps.old ≤ steps.new }
 {
-    let Some(job) = parse_job(alloc, bytes)? else {
-        return Ok(None);
-    };
-    let reply = answer(alloc, job, steps)?;
-    Ok(Some(reply))
+    match read_job(alloc, bytes)? {
+        Ok(job) => Ok(Ok(answer(alloc, job, steps)?)),
+        Err(reason) => Ok(Err(reason)),
+    }
 }
 
 /// Runs the plan of a job, and prints its page or its refusal.

@@ -8,6 +8,7 @@ ghost use Rattle.vx_tool.specs.Outcome.{limit, HasReply, Stops, Writes, Outcome,
 ghost use Rattle.vx_tool.specs.declared.status.Status.{Status};
 
 use crate::command::is_run;
+use crate::note::Note;
 use crate::reply::{Reply, reply_to};
 use crate::status::Status;
 use std::alloc::Global;
@@ -44,20 +45,51 @@ pub fn run_job<S: Source, K: Sink, L: Ledger>(
     ensures reads_later { S.faults source.old ≤ S.faults source.new }
     ensures writes_later { K.faults sink.old ≤ K.faults sink.new }
 {
+    let mut note = Note::new();
+    run_noted(alloc, words, source, sink, steps, &mut note)
+}
+
+/// The same, and where the bytes are no job, the note tells why.
+pub fn run_noted<S: Source, K: Sink, L: Ledger>(
+    alloc: Global,
+    words: &[String],
+    source: &mut S,
+    sink: &mut K,
+    steps: &mut Steps<L>,
+    note: &mut Note,
+) -> Status
+    ensures usage { (result ≡ Status.Usage) ↔ (is_run_spec (map string_bytes words.now) ≡ false) }
+    ensures outcome { Outcome result (S.left source.old) (S.left source.new) (K.held sink.old) (K.held sink.new)
+        steps.old steps.new }
+    ensures short { (result ≢ Status.TooLong) → taken_len (S.left source.old) (S.left source.new) ≤ limit }
+    ensures read_fault { result ≡ Status.ReadFault → Rose (S.faults source.old) (S.faults source.new) }
+    ensures write_fault { result ≡ Status.WriteFault → Rose (K.faults sink.old) (K.faults sink.new) }
+    ensures complete { (bytes : List ℕ) (wanted : Status) → S.left source.old ≡ Some bytes → IsOwed bytes wanted
+        → is_run_spec (map string_bytes words.now) ≡ true
+        → ¬ Rose (S.faults source.old) (S.faults source.new) → ¬ Rose (K.faults sink.old) (K.faults sink.new)
+        → IsUnlessMemory result wanted }
+    ensures monotone { steps.old ≤ steps.new }
+    ensures front { TakesFront (S.left source.old) (S.left source.new) }
+    ensures reads_tell { TellsAsBefore (S.left source.old) (S.left source.new) }
+    ensures writes_tell { TellsAsBefore (K.held sink.old) (K.held sink.new) }
+    ensures reads_later { S.faults source.old ≤ S.faults source.new }
+    ensures writes_later { K.faults sink.old ≤ K.faults sink.new }
+{
     if !is_run(words) {
         return Status::Usage;
     }
-    match read_reply(alloc, source, steps) {
+    match read_reply(alloc, source, steps, note) {
         Ok(reply) => write_reply(&reply, sink),
         Err(status) => status,
     }
 }
 
-/// Reads the job, and makes the reply to it.
+/// Reads the job, and makes the reply to it. Where the bytes are no job, the note tells why.
 fn read_reply<S: Source, L: Ledger>(
     alloc: Global,
     source: &mut S,
     steps: &mut Steps<L>,
+    note: &mut Note,
 ) -> Result<Reply, Status>
     ensures ok { IfOk result
         (λ reply. HasReply (S.left source.old) (S.left source.new) reply steps.old steps.new) }
@@ -76,8 +108,11 @@ fn read_reply<S: Source, L: Ledger>(
         Err(ReadError::OutOfMemory) => return Err(Status::OutOfMemory),
     };
     match reply_to(alloc, &bytes, steps) {
-        Ok(Some(reply)) => Ok(reply),
-        Ok(None) => Err(Status::NotAJob),
+        Ok(Ok(reply)) => Ok(reply),
+        Ok(Err(reason)) => {
+            note.keep(reason);
+            Err(Status::NotAJob)
+        }
         Err(_) => Err(Status::OutOfMemory),
     }
 }

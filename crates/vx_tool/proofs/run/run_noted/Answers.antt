@@ -1,6 +1,6 @@
 use Rattle.std.proofs.Common.{Err, ap}
 use Rattle.vx_tool.proofs.Complete.{complete, written_outcome, stopped_outcome, keeps_same, never_usage, never_read_fault, stops_no_usage, stops_no_write_fault}
-use Rattle.vx_tool.proofs.run.run_job.Goals as goal
+use Rattle.vx_tool.proofs.run.run_noted.Goals as goal
 
 pub returns-in-Ok-clause-complete : goal.returns-in-Ok-clause-complete
 returns-in-Ok-clause-complete g c bytes wanted is owed words reads writes =
