@@ -1,6 +1,7 @@
 //! Growable lists of rows, packed by kind.
 #![tactic(auto)]
 
+pub mod binaries;
 pub mod buffer;
 mod fitting;
 mod offers;
@@ -8,6 +9,7 @@ pub mod row_ref;
 mod single;
 pub mod slots;
 mod store;
+pub mod texts;
 
 pub use buffer::RowBuffer;
 pub use row_ref::RowRef;
