@@ -139,10 +139,17 @@ fn push_range(into: &mut Binaries, other: &Binaries, range: Range<usize>) -> Res
     ensures err { OnErr result (take (length into.old) into.new ≡ into.old) }
 {
     for i in range.start..range.end {
-        match other.get(i) {
-            None => into.push_null()?,
-            Some(bytes) => into.push(bytes)?,
-        }
+        push_piece(into, other.get(i))?;
     }
     Ok(())
+}
+
+fn push_piece(into: &mut Binaries, piece: Option<&[u8]>) -> Result<(), AllocError>
+    ensures ok { OnOk result (into.new ≡ into.old ++ option_copied piece.entry ∷ []) }
+    ensures err { OnErr result (into.new ≡ into.old) }
+{
+    match piece {
+        None => into.push_null(),
+        Some(bytes) => into.push(bytes),
+    }
 }

@@ -4,6 +4,7 @@
 pub mod binaries;
 pub mod buffer;
 mod fitting;
+mod moves;
 mod offers;
 pub mod row_ref;
 mod single;
