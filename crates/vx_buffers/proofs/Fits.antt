@@ -7,13 +7,13 @@ use Rattle.std.proofs.lemmas.Bool.Decides.{nat_tests}
 use Rattle.vx_rows.specs.declared.dtype.DType.{DType, out-DType}
 use Rattle.vx_rows.specs.declared.dtype.DType.TheOpen.{DType-F}
 use Rattle.vx_rows.specs.declared.dtype.Fields.{Fields}
-use Rattle.vx_rows.specs.declared.value.Value.{Value, Bool as BoolValue, Int, Decimal, fold-roll-Value, roll-Value, map-Value}
-use Rattle.vx_rows.specs.declared.value.Value.TheVariants.{rolls-Bool, rolls-Int, rolls-Decimal}
+use Rattle.vx_rows.specs.declared.value.Value.{Value, Bool as BoolValue, Int, Decimal, Utf8, Binary, fold-roll-Value, roll-Value, map-Value}
+use Rattle.vx_rows.specs.declared.value.Value.TheVariants.{rolls-Bool, rolls-Int, rolls-Decimal, rolls-Utf8, rolls-Binary}
 use Rattle.vx_rows.specs.declared.value.Value.TheOpen.{Value-F}
 use Rattle.vx_rows.specs.Fits.{layer_fits, fits_step, value_fits, row_fits, rows_fit, is_nullable}
 use Rattle.vx_rows.specs.Types.{nullability}
-use Rattle.vx_buffers.specs.Fits.{layer_is_bool, is_bool, layer_range, number_range, layer_bound, decimal_bound, null_or, is_within, is_below}
-use Rattle.vx_buffers.specs.Stores.{long_value}
+use Rattle.vx_buffers.specs.Fits.{layer_is_bool, is_bool, layer_is_text, is_text, layer_is_binary, is_binary, valid_or, layer_range, number_range, layer_bound, decimal_bound, null_or, is_within, is_below}
+use Rattle.vx_buffers.specs.Stores.{long_value, bool_rows, text_rows, binary_rows}
 use Rattle.vx_buffers.proofs.Rows.{get_rows}
 
 abbrev layer_of : Value-F Value → Value-F (DType → Bool)
@@ -48,7 +48,21 @@ decimal_layer : (z : ℤ) (y : DType-F DType Fields) → layer_fits (λ f s. f s
 decimal_layer z (DType-F.Decimal d n) = refl
 decimal_layer z y = none_below (unsigned_abs z)
 
-pub bool_fits : (t : DType) (b : Bool) → value_fits (BoolValue b) t ≡ is_bool t
+text_layer : (s : List ℕ) (y : DType-F DType Fields) → layer_fits (λ f s. f s) (layer_of (Value-F.Utf8 s)) y ≡ layer_is_text y
+text_layer s (DType-F.Utf8 n) = refl
+text_layer s y = refl
+
+binary_layer : (s : List ℕ) (y : DType-F DType Fields) → layer_fits (λ f s. f s) (layer_of (Value-F.Binary s)) y ≡ layer_is_binary y
+binary_layer s (DType-F.Binary n) = refl
+binary_layer s y = refl
+
+text_fits : (t : DType) (s : List ℕ) → value_fits (Utf8 s) t ≡ is_text t
+text_fits t s = ap (λ v. value_fits v t) (sym (rolls-Utf8 s)) ∙ by_layer (Value-F.Utf8 s) t ∙ text_layer s (out-DType t)
+
+binary_fits : (t : DType) (s : List ℕ) → value_fits (Binary s) t ≡ is_binary t
+binary_fits t s = ap (λ v. value_fits v t) (sym (rolls-Binary s)) ∙ by_layer (Value-F.Binary s) t ∙ binary_layer s (out-DType t)
+
+bool_fits : (t : DType) (b : Bool) → value_fits (BoolValue b) t ≡ is_bool t
 bool_fits t b = ap (λ v. value_fits v t) (sym (rolls-Bool b)) ∙ by_layer (Value-F.Bool b) t ∙ bool_layer b (out-DType t)
 
 pub int_fits : (t : DType) (z : ℤ) → value_fits (Int z) t ≡ is_within (number_range t) z
@@ -63,6 +77,22 @@ long_fits t n = int_fits t (pos n)
 pub null_or_map : {A B : Type 0} (null : Bool) (test : B → Bool) (f : A → B) (x : Option A) → null_or null test (option_map f x) ≡ null_or null (λ a. test (f a)) x
 null_or_map null test f None = refl
 null_or_map null test f (Some x) = refl
+
+-- rows of a kind whose values fit alike
+module _ (t : DType) {A : Type 0} (f : A → Value) (fits : Bool) (same : (x : A) → value_fits (f x) t ≡ fits) where
+  alike : (xs : List (Option A)) → list_all (valid_or (is_nullable (nullability t)) fits) (map (option_map f) xs) ≡ rows_fit t (map (option_map f) xs)
+  alike [] = refl
+  alike (None ∷ xs) = ap (λ b. is_nullable (nullability t) && b) (alike xs)
+  alike (Some x ∷ xs) = λ i. sym (same x) i && alike xs i
+
+pub bools_alike : (t : DType) (xs : List (Option Bool)) → list_all (valid_or (is_nullable (nullability t)) (is_bool t)) (bool_rows xs) ≡ rows_fit t (bool_rows xs)
+bools_alike t xs = alike t BoolValue (is_bool t) (bool_fits t) xs
+
+pub texts_alike : (t : DType) (xs : List (Option (List ℕ))) → list_all (valid_or (is_nullable (nullability t)) (is_text t)) (text_rows xs) ≡ rows_fit t (text_rows xs)
+texts_alike t xs = alike t Utf8 (is_text t) (text_fits t) xs
+
+pub binaries_alike : (t : DType) (xs : List (Option (List ℕ))) → list_all (valid_or (is_nullable (nullability t)) (is_binary t)) (binary_rows xs) ≡ rows_fit t (binary_rows xs)
+binaries_alike t xs = alike t Binary (is_binary t) (binary_fits t) xs
 
 -- a walk over a list whose elements are tested one by one
 module _ {X : Type 0} (p : X → Bool) where

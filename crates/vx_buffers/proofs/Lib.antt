@@ -1,3 +1,4 @@
 pub mod Cells
 pub mod Fits
 pub mod Rows
+pub mod Spans

@@ -1,12 +1,12 @@
 -- The rows of what is packed.
-use Rattle.std.proofs.Common.{ℕ, zero, suc, ℤ, pos, ◌≡◌, ◌<◌, ◌≤◌, ◌+◌, ◌-◌, ◌∙◌, ap, sym, refl, arith, Bool, List, [], ◌∷◌, ◌++◌, length, get_or, take, drop, map, Option, Some, None, is_some, reverse}
+use Rattle.std.proofs.Common.{ℕ, zero, suc, ℤ, pos, ◌≡◌, ◌<◌, ◌≤◌, ◌+◌, ◌-◌, ◌∙◌, ap, sym, refl, arith, Bool, List, [], ◌∷◌, ◌++◌, length, get_or, take, drop, map, Option, Some, None, is_some, reverse, append_assoc}
 use Rattle.std.specs.Option.{option_map}
 use Rattle.std.specs.List.{slice_range}
 use Rattle.std.proofs.lemmas.List.{get_or-drop, length-drop, length-map, map-append, reverse-append}
-use Rattle.vx_rows.specs.declared.value.Value.{Value, Bool as BoolValue, Int, Decimal, out-Value, out-roll-Value}
+use Rattle.vx_rows.specs.declared.value.Value.{Value, Bool as BoolValue, Int, Decimal, Utf8, Binary, out-Value, out-roll-Value}
 use Rattle.vx_rows.specs.declared.value.Value.TheOpen.{Value-F}
-use Rattle.vx_rows.specs.declared.value.Value.TheVariants.{rolls-Bool, rolls-Int, rolls-Decimal}
-use Rattle.vx_buffers.specs.Stores.{bool_rows, int_rows, long_rows, decimal_rows}
+use Rattle.vx_rows.specs.declared.value.Value.TheVariants.{rolls-Bool, rolls-Int, rolls-Decimal, rolls-Utf8, rolls-Binary}
+use Rattle.vx_buffers.specs.Stores.{bool_rows, int_rows, long_rows, decimal_rows, text_rows, binary_rows}
 use Rattle.vx_buffers.specs.Numbers.{row_int, layer_int}
 
 pub get_rows : {A B : Type 0} (f : A → B) (xs : List (Option A)) (i : ℕ) → get_or (map (option_map f) xs) i None ≡ option_map f (get_or xs i None)
@@ -42,6 +42,24 @@ decimal_at (None ∷ xs) zero = refl
 decimal_at (Some z ∷ xs) zero = decimal_int z
 decimal_at (x ∷ xs) (suc i) = decimal_at xs i
 
+text_int : (s : List ℕ) → row_int (Some (Utf8 s)) ≡ None
+text_int s = ap (λ v. layer_int (out-Value v)) (sym (rolls-Utf8 s)) ∙ ap layer_int (out-roll-Value (Value-F.Utf8 s))
+
+pub text_at : (xs : List (Option (List ℕ))) (i : ℕ) → row_int (get_or (text_rows xs) i None) ≡ None
+text_at [] i = refl
+text_at (None ∷ xs) zero = refl
+text_at (Some s ∷ xs) zero = text_int s
+text_at (x ∷ xs) (suc i) = text_at xs i
+
+binary_int : (s : List ℕ) → row_int (Some (Binary s)) ≡ None
+binary_int s = ap (λ v. layer_int (out-Value v)) (sym (rolls-Binary s)) ∙ ap layer_int (out-roll-Value (Value-F.Binary s))
+
+pub binary_at : (xs : List (Option (List ℕ))) (i : ℕ) → row_int (get_or (binary_rows xs) i None) ≡ None
+binary_at [] i = refl
+binary_at (None ∷ xs) zero = refl
+binary_at (Some s ∷ xs) zero = binary_int s
+binary_at (x ∷ xs) (suc i) = binary_at xs i
+
 int_int : (z : ℤ) → row_int (Some (Int z)) ≡ Some z
 int_int z = ap (λ v. layer_int (out-Value v)) (sym (rolls-Int z)) ∙ ap layer_int (out-roll-Value (Value-F.Int z))
 
@@ -70,6 +88,11 @@ range_more xs a i d o h =
     ap (λ n. take n (drop a xs)) e
     ∙ take_one (drop a xs) (i - a) d (omega (arith, length-drop a xs))
     ∙ ap (λ x. slice_range xs a i ++ x ∷ []) (get_or-drop a xs (i - a) d ∙ ap (λ n. get_or xs n d) f)
+
+-- a range of one more, behind other elements
+pub range_grows : {X : Type 0} (u v w xs : List X) (a i : ℕ) (x d : X) → u ≡ v ++ slice_range xs a i → a ≤ i → i < length xs → w ≡ u ++ x ∷ [] → x ≡ get_or xs i d → w ≡ v ++ slice_range xs a (i + 1)
+range_grows u v w xs a i x d so_far order inside next at =
+    next ∙ (λ i. so_far i ++ at i ∷ []) ∙ append_assoc v (slice_range xs a i) (get_or xs i d ∷ []) ∙ ap (λ t. v ++ t) (sym (range_more xs a i d order inside))
 
 pub length_rows : {A B : Type 0} (f : A → B) (xs : List (Option A)) → length (map (option_map f) xs) ≡ length xs
 length_rows f xs = length-map xs (option_map f)

@@ -12,6 +12,22 @@ layer_is_bool t = false
 abbrev pub is_bool : DType → Bool
 is_bool t = layer_is_bool (out-DType t)
 
+abbrev pub layer_is_text : {A B : Type 0} → DType-F A B → Bool
+layer_is_text (DType-F.Utf8 n) = true
+layer_is_text t = false
+
+-- whether a text fits
+abbrev pub is_text : DType → Bool
+is_text t = layer_is_text (out-DType t)
+
+abbrev pub layer_is_binary : {A B : Type 0} → DType-F A B → Bool
+layer_is_binary (DType-F.Binary n) = true
+layer_is_binary t = false
+
+-- whether bytes fit
+abbrev pub is_binary : DType → Bool
+is_binary t = layer_is_binary (out-DType t)
+
 abbrev pub layer_range : {A B : Type 0} → DType-F A B → ℤ × ℤ
 layer_range (DType-F.Primitive p n) = (ptype_min p, ptype_max p)
 layer_range t = (pos 1, pos 0)
@@ -38,3 +54,8 @@ is_within range z = int_le range.0 z && int_le z range.1
 
 abbrev pub is_below : ℕ → ℤ → Bool
 is_below bound z = nat_lt (unsigned_abs z) bound
+
+-- a null and a value by a Bool each
+abbrev pub valid_or : {A : Type 0} → Bool → Bool → Option A → Bool
+valid_or null value None = null
+valid_or null value (Some x) = value

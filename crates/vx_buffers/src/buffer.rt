@@ -11,18 +11,19 @@ ghost use Rattle.vx_buffers.specs.Rows.{RowList};
 ghost use Rattle.vx_buffers.specs.Stores.{Offered};
 
 use crate::fitting::store_fits;
-use crate::offers::{offer, offer_number, offer_range};
+use crate::moves::move_last;
+use crate::offers::{offer, offer_bytes, offer_number, offer_range, offer_str};
 use crate::row_ref::RowRef;
 use crate::store::Store;
-use std::alloc::{AllocError, Global};
+use std::alloc::Global;
 use std::cmp::Ordering;
 use std::marker::Model;
 use std::ops::Range;
-use vx_rows::copy::copy_row;
+use vx_rows::copy::copy_value;
 use vx_rows::{ColumnError, DType, Res, Row, Seq, Text, Value};
 
-/// A growable list of rows. Rows of one kind, booleans, integers or decimals, take a few bytes each; a row of another
-/// kind than the buffer packs is taken too, and then none is packed. Contracts see the list of rows.
+/// A growable list of rows. Booleans, integers, decimals, texts and byte strings are packed, if all values are of one kind: a
+/// row of another kind than the buffer packs is taken too, and then none is packed. Contracts see the list of rows.
 pub struct RowBuffer {
     store: Store,
 }
@@ -61,12 +62,12 @@ impl RowBuffer {
         ensures err { IsOkUnless result ColumnError.OutOfMemory }
     {
         match dtype {
-            DType::Bool(_) | DType::Primitive(_, _) | DType::Decimal(_, _) => {
-                packed(alloc, dtype, rows.as_slice())
-            }
-            _ => Ok(RowBuffer {
-                store: Store::Rows(rows.into_vec()),
-            }),
+            DType::List(_, _) | DType::FixedSizeList(_, _, _) | DType::Struct(_, _) => Ok(
+                RowBuffer {
+                    store: Store::Rows(rows.into_vec()),
+                },
+            ),
+            _ => packed(alloc, dtype, rows.as_slice()),
         }
     }
 
@@ -208,6 +209,9 @@ impl RowBuffer {
         ensures err { OnErr result (self.new ≡ self.old) }
         ensures refuses { IsOkUnless result ColumnError.OutOfMemory }
     {
+        if offer_str(&mut self.store, text)? {
+            return Ok(());
+        }
         let copy = Text::from_str(alloc, text)?;
         self.push(alloc, Some(Value::Utf8(copy)))
     }
@@ -218,8 +222,31 @@ impl RowBuffer {
         ensures err { OnErr result (self.new ≡ self.old) }
         ensures refuses { IsOkUnless result ColumnError.OutOfMemory }
     {
+        if offer_bytes(&mut self.store, bytes)? {
+            return Ok(());
+        }
         let copy = Vec::from_slice(alloc, bytes)?;
         self.push(alloc, Some(Value::Binary(Seq::from_vec(copy))))
+    }
+
+    /// Puts a copy of the row at the end, as `push` does.
+    pub fn push_ref(&mut self, alloc: Global, row: RowRef<'_>) -> Res<()>
+        ensures ok { OnOk result (self.new ≡ self.old ++ row_of_ref row.entry ∷ []) }
+        ensures err { OnErr result (self.new ≡ self.old) }
+        ensures refuses { IsOkUnless result ColumnError.OutOfMemory }
+    {
+        match row {
+            RowRef::Null => self.push_null(alloc),
+            RowRef::Bool(truth) => self.push_bool(alloc, truth),
+            RowRef::Int(number) => self.push_int(alloc, number),
+            RowRef::Decimal(unscaled) => self.push_decimal(alloc, unscaled),
+            RowRef::Utf8(text) => self.push_text(alloc, text),
+            RowRef::Binary(bytes) => self.push_bytes(alloc, bytes),
+            RowRef::Value(value) => {
+                let copy = copy_value(alloc, value)?;
+                self.push(alloc, Some(copy))
+            }
+        }
     }
 
     /// Appends a range of the other rows, at once where both pack the same kind. A refusal leaves the rows as they were.
@@ -233,15 +260,12 @@ impl RowBuffer {
         if offer_range(&mut self.store, &other.store, range.start..range.end)? {
             return Ok(());
         }
-        let mut more = other.store.copies(alloc, range)?.into_vec();
-        if let Store::Rows(rows) = &mut self.store {
-            rows.append(&mut more)?;
-            return Ok(());
+        let before = self.len();
+        let result = push_range(self, alloc, other, range);
+        if result.is_err() {
+            self.store.truncate(before);
         }
-        let mut rows = self.store.unpacked(alloc)?;
-        rows.append(&mut more)?;
-        self.store = Store::Rows(rows);
-        Ok(())
+        result
     }
 
     /// Appends copies of the row. A refusal leaves the rows as they were.
@@ -268,8 +292,10 @@ impl RowBuffer {
         ensures refuses { IsOkUnless result ColumnError.OutOfMemory }
     {
         let last = self.len() - 1;
-        let row = self.row(alloc, last)?;
-        other.push(alloc, row)?;
+        if move_last(&mut self.store, &mut other.store)? {
+            return Ok(());
+        }
+        other.push_ref(alloc, self.get(last))?;
         self.store.truncate(last);
         Ok(())
     }
@@ -285,15 +311,14 @@ impl RowBuffer {
     }
 }
 
-/// The rows, packed as rows of the type.
+/// Copies of the rows, packed as rows of the type.
 fn packed(alloc: Global, dtype: &DType, rows: &[Row]) -> Res<RowBuffer>
     ensures ok { IfOk result (λ b. b ≡ rows.now) }
     ensures err { IsOkUnless result ColumnError.OutOfMemory }
 {
     let mut buffer = RowBuffer::new(alloc, dtype);
     for row in rows {
-        let copy = copy_row(alloc, row)?;
-        buffer.push(alloc, copy)?;
+        buffer.push_ref(alloc, RowRef::new(row))?;
     }
     Ok(buffer)
 }
@@ -305,8 +330,27 @@ fn push_times(buffer: &mut RowBuffer, alloc: Global, row: &Row, count: usize) ->
     ensures refuses { IsOkUnless result ColumnError.OutOfMemory }
 {
     for _done in 0..count {
-        let copy = copy_row(alloc, row)?;
-        buffer.push(alloc, copy)?;
+        buffer.push_ref(alloc, RowRef::new(row))?;
+    }
+    Ok(())
+}
+
+/// Appends a range of the other rows one by one, of which a refusal may leave some.
+#[tactic(auto, using(crate::proofs::Rows::range_more))]
+fn push_range(
+    buffer: &mut RowBuffer,
+    alloc: Global,
+    other: &RowBuffer,
+    range: Range<usize>,
+) -> Res<()>
+    requires order { range.start ≤ range.end }
+    requires inside { range.end ≤ length other.now }
+    ensures ok { OnOk result (buffer.new ≡ buffer.old ++ slice_range other.now range.start range.end) }
+    ensures err { OnErr result (take (length buffer.old) buffer.new ≡ buffer.old) }
+    ensures refuses { IsOkUnless result ColumnError.OutOfMemory }
+{
+    for i in range.start..range.end {
+        buffer.push_ref(alloc, other.get(i))?;
     }
     Ok(())
 }

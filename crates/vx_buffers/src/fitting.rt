@@ -1,8 +1,10 @@
 //! Whether packed rows fit a type, in one pass over what is packed.
-ghost use Rattle.std.specs.Prelude.{◌≡◌};
-ghost use Rattle.vx_rows.specs.Fits.{rows_fit};
-ghost use Rattle.vx_buffers.specs.Fits.{number_range, decimal_bound, is_bool, null_or, is_within, is_below};
-ghost use Rattle.vx_buffers.specs.Stores.{rows_of, bool_rows, int_rows, long_rows, decimal_rows};
+ghost use Rattle.std.specs.Prelude.{◌≡◌, if◌then◌else◌};
+ghost use Rattle.std.specs.List.{list_all};
+ghost use Rattle.vx_rows.specs.Fits.{rows_fit, is_nullable};
+ghost use Rattle.vx_rows.specs.Types.{nullability};
+ghost use Rattle.vx_buffers.specs.Fits.{number_range, decimal_bound, is_bool, is_text, is_binary, null_or, valid_or, is_within, is_below};
+ghost use Rattle.vx_buffers.specs.Stores.{rows_of, int_rows, long_rows, decimal_rows};
 
 use crate::single::{wide_int, wide_long};
 use crate::slots::Slots;
@@ -11,29 +13,38 @@ use vx_rows::DType;
 use vx_rows::fits::rows_fit;
 
 /// Whether each row fits the type.
+#[tactic(auto, using(crate::proofs::Fits::bools_alike, crate::proofs::Fits::texts_alike, crate::proofs::Fits::binaries_alike))]
 pub(crate) fn store_fits(store: &Store, dtype: &DType) -> bool
     ensures { result ≡ rows_fit dtype.now (rows_of store.now) }
 {
     match store {
-        Store::Bools(truths) => bools_fit(truths, dtype),
+        Store::Bools(_) => all_fit(store, dtype, is_bool(dtype)),
         Store::Ints(numbers) => ints_fit(numbers, dtype),
         Store::Longs(numbers) => longs_fit(numbers, dtype),
         Store::Decimals(unscaled) => decimals_fit(unscaled, dtype),
+        Store::Texts(_) => all_fit(store, dtype, is_text(dtype)),
+        Store::Binaries(_) => all_fit(store, dtype, is_binary(dtype)),
         Store::Rows(rows) => rows_fit(rows.as_slice(), dtype),
     }
 }
 
-fn bools_fit(truths: &Slots<bool>, dtype: &DType) -> bool
-    ensures { result ≡ rows_fit dtype.now (bool_rows truths.now) }
+/// Whether each row fits the type, if values fit it by `value_fits`.
+fn all_fit(store: &Store, dtype: &DType, value_fits: bool) -> bool
+    ensures { result ≡ list_all (valid_or (is_nullable (nullability dtype.now)) value_fits) (rows_of store.now) }
 {
     let null_fits = dtype.nullability().is_nullable();
-    let value_fits = is_bool(dtype);
-    for i in 0..truths.len() {
-        if !truth_fits(truths.get(i), null_fits, value_fits) {
+    for i in 0..store.len() {
+        if !kind_fits(store.is_valid(i), null_fits, value_fits) {
             return false;
         }
     }
     true
+}
+
+fn kind_fits(valid: bool, null_fits: bool, value_fits: bool) -> bool
+    ensures { result ≡ (if valid then value_fits else null_fits) }
+{
+    if valid { value_fits } else { null_fits }
 }
 
 fn ints_fit(numbers: &Slots<i64>, dtype: &DType) -> bool
@@ -75,15 +86,6 @@ fn decimals_fit(unscaled: &Slots<i128>, dtype: &DType) -> bool
     true
 }
 
-fn truth_fits(truth: Option<bool>, null_fits: bool, value_fits: bool) -> bool
-    ensures { result ≡ null_or null_fits (λ _. value_fits) truth }
-{
-    match truth {
-        None => null_fits,
-        Some(_) => value_fits,
-    }
-}
-
 fn number_fits(number: Option<i128>, null_fits: bool, range: (i128, i128)) -> bool
     ensures { result ≡ null_or null_fits (is_within range) number }
 {
@@ -107,6 +109,20 @@ fn is_bool(dtype: &DType) -> bool
     ensures { result ≡ is_bool dtype.now }
 {
     matches!(dtype, DType::Bool(_))
+}
+
+/// Whether a text fits.
+fn is_text(dtype: &DType) -> bool
+    ensures { result ≡ is_text dtype.now }
+{
+    matches!(dtype, DType::Utf8(_))
+}
+
+/// Whether bytes fit.
+fn is_binary(dtype: &DType) -> bool
+    ensures { result ≡ is_binary dtype.now }
+{
+    matches!(dtype, DType::Binary(_))
 }
 
 /// The least and the greatest number that fits; where none does, 1 and 0.

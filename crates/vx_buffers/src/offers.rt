@@ -1,11 +1,13 @@
 //! Rows that are put at the end of a store where they are of the kind that is packed.
 ghost use Rattle.std.specs.Prelude.{◌≡◌, ◌≤◌, ◌++◌, Some, length, IfOk, OnErr};
 ghost use Rattle.std.specs.List.{slice_range};
-ghost use Rattle.vx_rows.specs.declared.value.Value.{Int as IntValue};
-ghost use Rattle.vx_buffers.specs.Stores.{rows_of, bool_rows, int_rows, long_rows, decimal_rows, Offered, Extended};
+ghost use Rattle.vx_rows.specs.declared.value.Value.{Int as IntValue, Utf8 as Utf8Value, Binary as BinaryValue};
+ghost use Rattle.vx_buffers.specs.Stores.{rows_of, bool_rows, int_rows, long_rows, decimal_rows, text_rows, binary_rows, Offered, Extended};
 
+use crate::binaries::Binaries;
 use crate::slots::Slots;
 use crate::store::Store;
+use crate::texts::Texts;
 use std::alloc::AllocError;
 use std::ops::Range;
 use vx_rows::{Row, Value};
@@ -20,6 +22,8 @@ pub(crate) fn offer(store: &mut Store, row: &Row) -> Result<bool, AllocError>
         Store::Ints(numbers) => offer_int(numbers, row),
         Store::Longs(numbers) => offer_long(numbers, row),
         Store::Decimals(unscaled) => offer_decimal(unscaled, row),
+        Store::Texts(texts) => offer_text(texts, row),
+        Store::Binaries(binaries) => offer_binary(binaries, row),
         Store::Rows(_rows) => Ok(false),
     }
 }
@@ -113,6 +117,42 @@ fn offer_decimal(unscaled: &mut Slots<i128>, row: &Row) -> Result<bool, AllocErr
     }
 }
 
+#[tactic(auto, using(crate::proofs::Rows::push_rows))]
+fn offer_text(texts: &mut Texts, row: &Row) -> Result<bool, AllocError>
+    ensures ok { IfOk result (λ taken. Offered taken (text_rows texts.old) (text_rows texts.new) row.now) }
+    ensures err { OnErr result (texts.new ≡ texts.old) }
+{
+    match row {
+        None => {
+            texts.push_null()?;
+            Ok(true)
+        }
+        Some(Value::Utf8(text)) => {
+            texts.push(text.as_str())?;
+            Ok(true)
+        }
+        _ => Ok(false),
+    }
+}
+
+#[tactic(auto, using(crate::proofs::Rows::push_rows))]
+fn offer_binary(binaries: &mut Binaries, row: &Row) -> Result<bool, AllocError>
+    ensures ok { IfOk result (λ taken. Offered taken (binary_rows binaries.old) (binary_rows binaries.new) row.now) }
+    ensures err { OnErr result (binaries.new ≡ binaries.old) }
+{
+    match row {
+        None => {
+            binaries.push_null()?;
+            Ok(true)
+        }
+        Some(Value::Binary(bytes)) => {
+            binaries.push(bytes.as_slice())?;
+            Ok(true)
+        }
+        _ => Ok(false),
+    }
+}
+
 /// Puts the number at the end where numbers are packed that it is one of, and says whether it did.
 pub(crate) fn offer_number(store: &mut Store, number: i128) -> Result<bool, AllocError>
     ensures ok { IfOk result (λ taken. Offered taken (rows_of store.old) (rows_of store.new) (Some (IntValue number))) }
@@ -121,6 +161,36 @@ pub(crate) fn offer_number(store: &mut Store, number: i128) -> Result<bool, Allo
     match store {
         Store::Ints(numbers) => offer_short(numbers, number),
         Store::Longs(numbers) => offer_unsigned(numbers, number),
+        _ => Ok(false),
+    }
+}
+
+/// Puts a copy of the text at the end where texts are packed, and says whether it did.
+#[tactic(auto, using(crate::proofs::Rows::push_rows))]
+pub(crate) fn offer_str(store: &mut Store, text: &str) -> Result<bool, AllocError>
+    ensures ok { IfOk result (λ taken. Offered taken (rows_of store.old) (rows_of store.new) (Some (Utf8Value text.now))) }
+    ensures err { OnErr result (rows_of store.new ≡ rows_of store.old) }
+{
+    match store {
+        Store::Texts(texts) => {
+            texts.push(text)?;
+            Ok(true)
+        }
+        _ => Ok(false),
+    }
+}
+
+/// Puts a copy of the bytes at the end where byte strings are packed, and says whether it did.
+#[tactic(auto, using(crate::proofs::Rows::push_rows))]
+pub(crate) fn offer_bytes(store: &mut Store, bytes: &[u8]) -> Result<bool, AllocError>
+    ensures ok { IfOk result (λ taken. Offered taken (rows_of store.old) (rows_of store.new) (Some (BinaryValue bytes.now))) }
+    ensures err { OnErr result (rows_of store.new ≡ rows_of store.old) }
+{
+    match store {
+        Store::Binaries(binaries) => {
+            binaries.push(bytes)?;
+            Ok(true)
+        }
         _ => Ok(false),
     }
 }
@@ -141,6 +211,8 @@ pub(crate) fn offer_range(
         Store::Ints(numbers) => extend_ints(numbers, other, range),
         Store::Longs(numbers) => extend_longs(numbers, other, range),
         Store::Decimals(unscaled) => extend_decimals(unscaled, other, range),
+        Store::Texts(texts) => extend_texts(texts, other, range),
+        Store::Binaries(binaries) => extend_binaries(binaries, other, range),
         Store::Rows(_rows) => Ok(false),
     }
 }
@@ -219,6 +291,42 @@ fn extend_decimals(
     match other {
         Store::Decimals(more) => {
             unscaled.extend(more, range)?;
+            Ok(true)
+        }
+        _ => Ok(false),
+    }
+}
+
+#[tactic(auto, using(crate::proofs::Rows::extend_rows, crate::proofs::Rows::length_rows))]
+fn extend_texts(texts: &mut Texts, other: &Store, range: Range<usize>) -> Result<bool, AllocError>
+    requires order { range.start ≤ range.end }
+    requires inside { range.end ≤ length (rows_of other.now) }
+    ensures ok { IfOk result (λ taken. Extended taken (text_rows texts.old) (text_rows texts.new) (slice_range (rows_of other.now) range.start range.end)) }
+    ensures err { OnErr result (texts.new ≡ texts.old) }
+{
+    match other {
+        Store::Texts(more) => {
+            texts.extend(more, range)?;
+            Ok(true)
+        }
+        _ => Ok(false),
+    }
+}
+
+#[tactic(auto, using(crate::proofs::Rows::extend_rows, crate::proofs::Rows::length_rows))]
+fn extend_binaries(
+    binaries: &mut Binaries,
+    other: &Store,
+    range: Range<usize>,
+) -> Result<bool, AllocError>
+    requires order { range.start ≤ range.end }
+    requires inside { range.end ≤ length (rows_of other.now) }
+    ensures ok { IfOk result (λ taken. Extended taken (binary_rows binaries.old) (binary_rows binaries.new) (slice_range (rows_of other.now) range.start range.end)) }
+    ensures err { OnErr result (binaries.new ≡ binaries.old) }
+{
+    match other {
+        Store::Binaries(more) => {
+            binaries.extend(more, range)?;
             Ok(true)
         }
         _ => Ok(false),

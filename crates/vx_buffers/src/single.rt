@@ -1,49 +1,13 @@
-//! Single rows, made of what packed lists hold.
+//! Single rows, lent, of what packed lists hold.
 ghost use Rattle.std.specs.Prelude.{◌≡◌, pos};
-ghost use Rattle.std.specs.Option.{option_map};
-ghost use Rattle.vx_rows.specs.declared.value.Value.{Bool as BoolValue, Int as IntValue, Decimal as DecimalValue};
+ghost use Rattle.std.specs.Option.{option_map, option_copied};
+ghost use Rattle.vx_rows.specs.declared.value.Value.{Bool as BoolValue, Int as IntValue, Decimal as DecimalValue, Utf8 as Utf8Value, Binary as BinaryValue};
 ghost use Rattle.vx_buffers.specs.Numbers.{row_int};
 ghost use Rattle.vx_buffers.specs.Refs.{row_of_ref};
 ghost use Rattle.vx_buffers.specs.Stores.{long_value};
 
 use crate::row_ref::RowRef;
 use vx_rows::{Row, Value};
-
-pub(crate) fn bool_row(truth: Option<bool>) -> Row
-    ensures { result ≡ option_map BoolValue truth }
-{
-    match truth {
-        None => None,
-        Some(truth) => Some(Value::Bool(truth)),
-    }
-}
-
-pub(crate) fn int_row(number: Option<i64>) -> Row
-    ensures { result ≡ option_map IntValue number }
-{
-    match number {
-        None => None,
-        Some(number) => Some(Value::Int(number as i128)),
-    }
-}
-
-pub(crate) fn long_row(number: Option<u64>) -> Row
-    ensures { result ≡ option_map long_value number }
-{
-    match number {
-        None => None,
-        Some(number) => Some(Value::Int(number as i128)),
-    }
-}
-
-pub(crate) fn decimal_row(unscaled: Option<i128>) -> Row
-    ensures { result ≡ option_map DecimalValue unscaled }
-{
-    match unscaled {
-        None => None,
-        Some(unscaled) => Some(Value::Decimal(unscaled)),
-    }
-}
 
 pub(crate) fn bool_ref<'a>(truth: Option<bool>) -> RowRef<'a>
     ensures { row_of_ref result ≡ option_map BoolValue truth }
@@ -78,6 +42,24 @@ pub(crate) fn decimal_ref<'a>(unscaled: Option<i128>) -> RowRef<'a>
     match unscaled {
         None => RowRef::Null,
         Some(unscaled) => RowRef::Decimal(unscaled),
+    }
+}
+
+pub(crate) fn text_ref<'a>(text: Option<&'a str>) -> RowRef<'a>
+    ensures { row_of_ref result ≡ option_map Utf8Value (option_map (λ s. s.now) text.entry) }
+{
+    match text {
+        None => RowRef::Null,
+        Some(text) => RowRef::Utf8(text),
+    }
+}
+
+pub(crate) fn binary_ref<'a>(bytes: Option<&'a [u8]>) -> RowRef<'a>
+    ensures { row_of_ref result ≡ option_map BinaryValue (option_copied bytes.entry) }
+{
+    match bytes {
+        None => RowRef::Null,
+        Some(bytes) => RowRef::Binary(bytes),
     }
 }
 

@@ -8,17 +8,17 @@ ghost use Rattle.vx_buffers.specs.Numbers.{row_int};
 ghost use Rattle.vx_buffers.specs.Refs.{row_of_ref};
 ghost use Rattle.vx_buffers.specs.Stores.{rows_of};
 
+use crate::binaries::Binaries;
 use crate::row_ref::RowRef;
 use crate::single::{
-    bool_ref, bool_row, decimal_ref, decimal_row, int_ref, int_row, long_ref, long_row, number_of,
-    wide_int, wide_long,
+    binary_ref, bool_ref, decimal_ref, int_ref, long_ref, number_of, text_ref, wide_int, wide_long,
 };
 use crate::slots::Slots;
+use crate::texts::Texts;
 use std::alloc::{AllocError, Global};
 use std::cmp::Ordering;
 use std::ops::Range;
-use vx_rows::copy::copy_row;
-use vx_rows::{ColumnError, DType, PType, Res, Row, Seq, order};
+use vx_rows::{ColumnError, DType, PType, Res, Row, Seq};
 
 /// Rows by kind: those of one kind that is packed, or rows of any kind.
 pub(crate) enum Store {
@@ -26,6 +26,8 @@ pub(crate) enum Store {
     Ints(Slots<i64>),
     Longs(Slots<u64>),
     Decimals(Slots<i128>),
+    Texts(Texts),
+    Binaries(Binaries),
     Rows(Vec<Row>),
 }
 
@@ -36,6 +38,8 @@ impl Drop for Store {
             Store::Ints(_numbers) => {}
             Store::Longs(_numbers) => {}
             Store::Decimals(_unscaled) => {}
+            Store::Texts(_texts) => {}
+            Store::Binaries(_binaries) => {}
             Store::Rows(_rows) => {}
         }
     }
@@ -51,6 +55,8 @@ impl Store {
             DType::Primitive(PType::U64, _) => Store::Longs(Slots::new(alloc)),
             DType::Primitive(_, _) => Store::Ints(Slots::new(alloc)),
             DType::Decimal(_, _) => Store::Decimals(Slots::new(alloc)),
+            DType::Utf8(_) => Store::Texts(Texts::new(alloc)),
+            DType::Binary(_) => Store::Binaries(Binaries::new(alloc)),
             _ => Store::Rows(Vec::new(alloc)),
         }
     }
@@ -64,6 +70,8 @@ impl Store {
             Store::Ints(numbers) => numbers.len(),
             Store::Longs(numbers) => numbers.len(),
             Store::Decimals(unscaled) => unscaled.len(),
+            Store::Texts(texts) => texts.len(),
+            Store::Binaries(binaries) => binaries.len(),
             Store::Rows(rows) => rows.len(),
         }
     }
@@ -79,29 +87,24 @@ impl Store {
             Store::Ints(numbers) => int_ref(numbers.get(i)),
             Store::Longs(numbers) => long_ref(numbers.get(i)),
             Store::Decimals(unscaled) => decimal_ref(unscaled.get(i)),
+            Store::Texts(texts) => text_ref(texts.get(i)),
+            Store::Binaries(binaries) => binary_ref(binaries.get(i)),
             Store::Rows(rows) => RowRef::new(&rows.as_slice()[i]),
         }
     }
 
     /// A copy of row `i`.
-    #[tactic(auto, using(crate::proofs::Rows::length_rows, crate::proofs::Rows::get_rows))]
     pub(crate) fn row(&self, alloc: Global, i: usize) -> Res<Row>
         requires { i < length (rows_of self.now) }
         ensures ok { IfOk result (λ r. r ≡ get_or (rows_of self.now) i None) }
         ensures err { IsOkUnless result ColumnError.OutOfMemory }
         ensures free { IsFalse (row_takes_memory (get_or (rows_of self.now) i None)) → IsOk result }
     {
-        match self {
-            Store::Bools(truths) => Ok(bool_row(truths.get(i))),
-            Store::Ints(numbers) => Ok(int_row(numbers.get(i))),
-            Store::Longs(numbers) => Ok(long_row(numbers.get(i))),
-            Store::Decimals(unscaled) => Ok(decimal_row(unscaled.get(i))),
-            Store::Rows(rows) => copy_row(alloc, &rows.as_slice()[i]),
-        }
+        self.get(i).to_row(alloc)
     }
 
     /// The number of row `i`, where it is an integer.
-    #[tactic(auto, using(crate::proofs::Rows::length_rows, crate::proofs::Rows::bool_at, crate::proofs::Rows::int_at, crate::proofs::Rows::long_at, crate::proofs::Rows::decimal_at))]
+    #[tactic(auto, using(crate::proofs::Rows::length_rows, crate::proofs::Rows::bool_at, crate::proofs::Rows::int_at, crate::proofs::Rows::long_at, crate::proofs::Rows::decimal_at, crate::proofs::Rows::text_at, crate::proofs::Rows::binary_at))]
     pub(crate) fn int(&self, i: usize) -> Option<i128>
         requires { i < length (rows_of self.now) }
         ensures { result ≡ row_int (get_or (rows_of self.now) i None) }
@@ -111,6 +114,8 @@ impl Store {
             Store::Ints(numbers) => wide_int(numbers.get(i)),
             Store::Longs(numbers) => wide_long(numbers.get(i)),
             Store::Decimals(_unscaled) => None,
+            Store::Texts(_texts) => None,
+            Store::Binaries(_binaries) => None,
             Store::Rows(rows) => number_of(&rows.as_slice()[i]),
         }
     }
@@ -126,23 +131,18 @@ impl Store {
             Store::Ints(numbers) => numbers.get(i).is_some(),
             Store::Longs(numbers) => numbers.get(i).is_some(),
             Store::Decimals(unscaled) => unscaled.get(i).is_some(),
+            Store::Texts(texts) => texts.is_valid(i),
+            Store::Binaries(binaries) => binaries.is_valid(i),
             Store::Rows(rows) => rows.as_slice()[i].is_some(),
         }
     }
 
     /// How row `i` stands to `elem`.
-    #[tactic(auto, using(crate::proofs::Rows::length_rows, crate::proofs::Rows::get_rows))]
     pub(crate) fn cmp(&self, i: usize, elem: &Row) -> Ordering
         requires { i < length (rows_of self.now) }
         ensures { result ≡ row_cmp (get_or (rows_of self.now) i None) elem.now }
     {
-        match self {
-            Store::Bools(truths) => order::row_cmp(&bool_row(truths.get(i)), elem),
-            Store::Ints(numbers) => order::row_cmp(&int_row(numbers.get(i)), elem),
-            Store::Longs(numbers) => order::row_cmp(&long_row(numbers.get(i)), elem),
-            Store::Decimals(unscaled) => order::row_cmp(&decimal_row(unscaled.get(i)), elem),
-            Store::Rows(rows) => order::row_cmp(&rows.as_slice()[i], elem),
-        }
+        self.get(i).cmp(elem)
     }
 
     /// Copies of the rows of the range.
@@ -182,6 +182,8 @@ impl Store {
             Store::Ints(numbers) => numbers.truncate(count),
             Store::Longs(numbers) => numbers.truncate(count),
             Store::Decimals(unscaled) => unscaled.truncate(count),
+            Store::Texts(texts) => texts.truncate(count),
+            Store::Binaries(binaries) => binaries.truncate(count),
             Store::Rows(rows) => rows.truncate(count),
         }
     }
@@ -197,6 +199,8 @@ impl Store {
             Store::Ints(numbers) => numbers.reverse(),
             Store::Longs(numbers) => numbers.reverse(),
             Store::Decimals(unscaled) => unscaled.reverse(),
+            Store::Texts(texts) => texts.reverse(),
+            Store::Binaries(binaries) => binaries.reverse(),
             Store::Rows(rows) => {
                 rows.reverse();
                 Ok(())
