@@ -92,6 +92,7 @@ impl Mask {
     }
 
     /// The bits of the range.
+    #[tactic(auto, using(crate::proofs::Uniform::slice_all, crate::proofs::Uniform::slice_none, crate::proofs::Uniform::slice_all_bits))]
     pub fn slice(&self, alloc: Global, range: Range<usize>) -> Res<Self>
         requires order { range.start ≤ range.end }
         requires inside { range.end ≤ length (bits_of self.now) }
@@ -143,7 +144,7 @@ impl Mask {
     }
 
     /// The number of true bits before a place. Reads no more than 512 bits.
-    #[tactic(auto, using(crate::proofs::Counts::count_none_before))]
+    #[tactic(auto, using(crate::proofs::Uniform::rank_all, crate::proofs::Counts::count_none_before))]
     pub fn rank(&self, i: usize) -> usize
         requires { i ≤ length (bits_of self.now) }
         ensures { result ≡ count_true (take i (bits_of self.now)) }
