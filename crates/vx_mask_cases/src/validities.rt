@@ -85,12 +85,7 @@ fn concat(alloc: Global, entries: &[(Validity, usize)]) -> Res<String> {
 }
 
 /// The bits of the entry of this number, over so many rows.
-fn to_bits(
-    alloc: Global,
-    entries: &[(Validity, usize)],
-    number: usize,
-    len: usize,
-) -> Res<String> {
+fn to_bits(alloc: Global, entries: &[(Validity, usize)], number: usize, len: usize) -> Res<String> {
     let Some(entry) = entries.get(number) else {
         return Ok(String::from_str(alloc, "no entry")?);
     };

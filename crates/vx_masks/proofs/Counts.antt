@@ -1,5 +1,5 @@
 -- Counts of true bits.
-use Rattle.std.proofs.Common.{arith, refl, sym, ◌∙◌, ap, ◌≡◌, ◌<◌, ◌≤◌, ℕ, ◌+◌, ◌*◌, ◌/◌, ◌^◌, Bool, true, false, cond, List, [], ◌∷◌, ◌++◌, length, get_or, take, drop, map}
+use Rattle.std.proofs.Common.{arith, refl, sym, ◌∙◌, ap, ◌≡◌, ◌<◌, ◌≤◌, ℕ, ◌+◌, ◌*◌, ◌/◌, Bool, true, false, cond, List, [], ◌∷◌, ◌++◌, length, get_or, take, drop, map}
 use Rattle.std.specs.List.{range_with_len, slice_range}
 use Rattle.std.specs.Prelude.{replicate}
 use Rattle.std.proofs.lemmas.List.{take-take, take-replicate, length-take-le, get_or_read}
@@ -39,7 +39,7 @@ pub rank_read : (bits : List Bool) (ranks : List ℕ) (i rank rest : ℕ) → i 
     rest ≡ count_true (slice_range bits (i / 512 * 512) i) → rank + rest ≡ count_true (take i bits)
 rank_read bits ranks i rank rest h e read counted =
     let at : rank ≡ get_or (ranks_of bits) (i / 512) 0 =
-        get_or_read (ranks_of bits) (i / 512) rank (rank_inside bits i h) (read ∙ ap (λ (xs : List ℕ). get_or xs (i / 512) rank) e) 0 in
+    get_or_read (ranks_of bits) (i / 512) rank (rank_inside bits i h) (read ∙ ap (λ (xs : List ℕ). get_or xs (i / 512) rank) e) 0 in
     ap (λ n. n + rest) at ∙ ap (λ n. get_or (ranks_of bits) (i / 512) 0 + n) counted ∙ rank_is bits i h
 
 -- one block more

@@ -1,13 +1,13 @@
 -- Validities joined.
-use Rattle.std.proofs.Common.{arith, refl, sym, ◌∙◌, ap, ◌≡◌, ◌<◌, ◌+◌, ℕ, Bool, true, false, ◌&&◌, List, [], ◌∷◌, ◌++◌, length, get_or, take}
-use Rattle.std.specs.List.{list_all, flat_map}
+use Rattle.std.proofs.Common.{refl, sym, ◌∙◌, ap, ◌≡◌, ◌<◌, ◌+◌, ℕ, Bool, true, false, ◌&&◌, List, [], ◌∷◌, ◌++◌, length, get_or, take}
+use Rattle.std.specs.List.{list_all}
 use Rattle.std.specs.Prelude.{replicate}
 use Rattle.std.proofs.lemmas.List.{take_more, append-nil, replicate-append-replicate}
 use Rattle.std.proofs.lemmas.Grind.{flat_map-append}
 use Rattle.std.proofs.lemmas.List.Sums.{sum_by-cons}
 use Rattle.vx_masks.specs.declared.validity.Validity.{Validity}
 use Rattle.vx_masks.specs.declared.validity.Validity.TheVariants.{NonNullable, AllValid, AllInvalid, Array}
-use Rattle.vx_masks.specs.Validities.{valid_bits, is_non_nullable, is_all_valid, is_all_invalid, joined_bits, joined_len, joined}
+use Rattle.vx_masks.specs.Validities.{valid_bits, is_non_nullable, is_all_valid, is_all_invalid, joined_bits, joined_len}
 
 -- one entry more
 pub joined_more : (entries : List (Validity × ℕ)) (i : ℕ) (d : Validity × ℕ) → i < length entries →

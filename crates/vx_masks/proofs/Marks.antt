@@ -1,5 +1,5 @@
 -- Bits that a test gives, place by place.
-use Rattle.std.proofs.Common.{arith, refl, sym, ◌∙◌, ap, ◌≡◌, ◌≢◌, ◌⊎◌, inl, inr, ◌<◌, ◌+◌, ℕ, Bool, true, false, ◌||◌, eqb as nat_eq, List, [], ◌∷◌, length, get_or, set, take, map}
+use Rattle.std.proofs.Common.{arith, refl, sym, ◌∙◌, ap, ◌≡◌, ◌⊎◌, inl, inr, ◌<◌, ◌+◌, ℕ, Bool, true, false, ◌||◌, eqb as nat_eq, List, length, get_or, set, take, map}
 use Rattle.std.specs.List.{range_with_len, list_any}
 use Rattle.std.specs.Prelude.{replicate}
 use Rattle.std.proofs.lemmas.Bool.{cases_eq, ne_eqb}
@@ -9,7 +9,7 @@ use Rattle.std.proofs.lemmas.List.{ext_get_or, length-set, get_or-set_other, len
 use Rattle.std.proofs.lemmas.Grind.{get_or-set_at}
 use Rattle.std.proofs.lemmas.List.FromFn.{get_or-map-range_with_len, length-map-range_with_len}
 use Rattle.std.proofs.lemmas.List.Folds.{list_any_more}
-use Rattle.vx_masks.specs.Bits.{is_within, bits_at, bits_in}
+use Rattle.vx_masks.specs.Bits.{is_within}
 
 -- so many bits, each as the test says
 pub record Marks (test : ℕ → Bool) (bits : List Bool) (len : ℕ) : Type 0 where
@@ -20,7 +20,7 @@ pub marked : (test : ℕ → Bool) (bits : List Bool) (len : ℕ) → Marks test
 marked test bits len m =
     ext_get_or false bits (map test (range_with_len 0 len)) (m.length_is ∙ sym (length-map-range_with_len test 0 len))
     (λ i h. let inside : i < len = omega (arith, m.length_is) in
-        m.each i inside ∙ sym (get_or-map-range_with_len test 0 len i i false inside (omega arith)))
+    m.each i inside ∙ sym (get_or-map-range_with_len test 0 len i i false inside (omega arith)))
 
 pub unmarked : (len : ℕ) → Marks (λ k. false) (replicate len false) len
 unmarked len = record { length_is = length-replicate len false; each = λ k h. get_or-replicate len k false false h }
@@ -30,7 +30,7 @@ pub index_more : (indices : List ℕ) (i index d : ℕ) (bits : List Bool) (len 
     Marks (λ k. list_any (nat_eq k) (take i indices)) bits len → Marks (λ k. list_any (nat_eq k) (take (i + 1) indices)) (set bits index true) len
 index_more indices i index d bits len h e below m = record {
   length_is = length-set bits index true ∙ m.length_is;
-  each = λ k k_below. at_place k k_below (cases_eq k index)
+  each = λ k k_below. at_place k k_below (cases_eq k index);
 }
   where
     more : (k : ℕ) → list_any (nat_eq k) (take (i + 1) indices) ≡ (list_any (nat_eq k) (take i indices) || nat_eq k index)
@@ -55,7 +55,7 @@ pub slice_more : (slices : List (ℕ × ℕ)) (i : ℕ) (slice d : ℕ × ℕ) (
 slice_more slices i slice d bits more len h e same_length step m = record {
   length_is = same_length ∙ m.length_is;
   each = λ k k_below.
-    step k (omega (arith, m.length_is))
-    ∙ (ap (λ b. b || is_within k slice) (m.each k k_below)
-    ∙ sym (list_any_more (is_within k) slices i d h ∙ ap (λ x. list_any (is_within k) (take i slices) || is_within k x) e))
+      step k (omega (arith, m.length_is))
+      ∙ (ap (λ b. b || is_within k slice) (m.each k k_below)
+      ∙ sym (list_any_more (is_within k) slices i d h ∙ ap (λ x. list_any (is_within k) (take i slices) || is_within k x) e));
 }

@@ -1,7 +1,6 @@
 -- Masks by their bits.
-use Rattle.std.specs.Prelude.{◌≡◌, ℕ, Bool, true, false, cond, List, length, Option, Some, None, replicate}
+use Rattle.std.specs.Prelude.{ℕ, Bool, true, false, cond, List, length, Option, Some, None, replicate}
 use Rattle.vx_masks.specs.Bits.{all_true, any_true, IsMixed, places_of}
-use Rattle.vx_masks.specs.Views.{MixedBits}
 use Rattle.vx_masks.specs.declared.mask.Mask.{Mask}
 use Rattle.vx_masks.specs.declared.mask.Mask.TheVariants.{AllTrue, AllFalse, Values}
 

@@ -59,11 +59,7 @@ pub(crate) fn places(alloc: Global, bits: &[bool]) -> Result<Vec<usize>, AllocEr
 }
 
 /// So many bits, true at the indices.
-pub(crate) fn bits_at(
-    alloc: Global,
-    len: usize,
-    indices: &[usize],
-) -> Result<Vec<bool>, AllocError>
+pub(crate) fn bits_at(alloc: Global, len: usize, indices: &[usize]) -> Result<Vec<bool>, AllocError>
     requires { All (λ i. i < len) indices.now }
     ensures { IfOk result (λ bits. bits.items ≡ bits_at len indices.now) }
 {

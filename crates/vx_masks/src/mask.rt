@@ -71,7 +71,7 @@ impl Mask {
         }
     }
 
-    /// A mask of `len` bits, true at the indices.
+    /// A mask of `len` bits, true at the indices, whose order doesn't matter.
     pub fn from_indices(alloc: Global, len: usize, indices: &[usize]) -> Res<Self>
         requires { All (λ i. i < len) indices.now }
         ensures mask { IfOk result (λ m. m ≡ mask_of (bits_at len indices.now)) }
@@ -81,7 +81,7 @@ impl Mask {
         Mask::from_vec(alloc, bits_at(alloc, len, indices)?)
     }
 
-    /// A mask of `len` bits, true from the start of each slice to below its end.
+    /// A mask of `len` bits, true from the start of each slice to below its end. Slices may be in any order, and overlap.
     pub fn from_slices(alloc: Global, len: usize, slices: &[(usize, usize)]) -> Res<Self>
         requires { All (λ s. (s.0 ≤ s.1) × (s.1 ≤ len)) slices.now }
         ensures mask { IfOk result (λ m. m ≡ mask_of (bits_in len slices.now)) }
