@@ -1,0 +1,4 @@
+pub mod Bits
+pub mod Masks
+pub mod Validities
+pub mod Views
