@@ -45,6 +45,15 @@ all_items-next f vs i v ys y lt is before here =
     ap (λ us. all_items f (items_view us)) (take_more vs i v lt ∙ ap (λ u. take i vs ++ u ∷ []) (sym is))
     ∙ all_items-push f (take i vs) v ∙ rw (before, here) refl
 
+-- an item more, where what was read of it stands at the end
+pub all_items-grown : {X : Type 0} (f : Data → Option X) (vs : List Value) (i : ℕ) (v : Value)
+    (ys new : List X)
+    → i < length vs → v ≡ get_or vs i v → all_items f (items_view (take i vs)) ≡ Some ys
+    → (f (view v) >>= λ y. Some (ys ++ y ∷ [])) ≡ Some new → all_items f (items_view (take (i + 1) vs)) ≡ Some new
+all_items-grown f vs i v ys new lt is before here =
+    ap (λ us. all_items f (items_view us)) (take_more vs i v lt ∙ ap (λ u. take i vs ++ u ∷ []) (sym is))
+    ∙ all_items-push f (take i vs) v ∙ rw before here
+
 stops : {X : Type 0} (o : Option X) → (o >>= λ x. option_map (λ xs. x ∷ xs) None) ≡ None
 stops None = refl
 stops (Some x) = refl

@@ -1,5 +1,5 @@
 -- The job that bytes are.
-use Rattle.std.specs.Prelude.{◌≡◌, ℕ, List, Some, IsUtf8}
+use Rattle.std.specs.Prelude.{◌≡◌, ℕ, List, Some, None, IsUtf8}
 use Rattle.serde_json.specs.Data.{Data}
 use Rattle.serde_json.specs.Read.{read}
 use Rattle.vx_job.specs.JobView.{JobView}
@@ -14,3 +14,11 @@ pub record IsJobOf (bytes : List ℕ) (a : JobView) : Type 0 where
 
 abbrev pub HasNoJob : List ℕ → Type 0
 HasNoJob bytes = (a : JobView) → IsJobOf bytes a → ⊥
+
+-- the bytes are text, and the text is this JSON
+abbrev pub IsJsonOf : List ℕ → Data → Type 0
+IsJsonOf bytes json = IsUtf8 bytes × (read bytes ≡ Some json)
+
+-- the bytes are no text, or the text is no JSON
+abbrev pub HasNoJson : List ℕ → Type 0
+HasNoJson bytes = IsUtf8 bytes → read bytes ≡ None

@@ -1,12 +1,14 @@
 -- The rows that JSON values are, by type.
-use Rattle.std.specs.Prelude.{if◌then◌else◌, Option, Some, None}
+use Rattle.std.specs.Prelude.{◌≡◌, if◌then◌else◌, ℤ, List, [], ◌∷◌, ◌++◌, Option, Some, None, Result, Ok, Err, ⊤}
 use Rattle.serde_json.specs.Data.{Data}
 use Rattle.serde_json.specs.Find.{as_bool, as_str}
 use Rattle.vx_rows.specs.declared.dtype.DType.{DType, out-DType}
 use Rattle.vx_rows.specs.declared.dtype.DType.TheOpen.{DType-F}
 use Rattle.vx_rows.specs.declared.value.Value.{Value, Bool, Int, Decimal, Utf8, Binary}
-use Rattle.vx_rows.specs.Fits.{row_fits}
-use Rattle.vx_json.specs.Forms.{◌>>=◌, integer_of, null_or}
+use Rattle.vx_rows.specs.Fits.{row_fits, is_in_range}
+use Rattle.vx_rows.specs.declared.kinds.PType.{PType}
+use Rattle.vx_json.specs.Forms.{◌>>=◌, Fails, integer_of, null_or}
+use Rattle.vx_json.specs.declared.forms.Unread.{Unread}
 use Rattle.vx_json.specs.Texts.{unscaled_of, bytes_of}
 
 -- a text that writes a number, unscaled
@@ -42,3 +44,15 @@ fitted_row t row = if row_fits t row then Some row else None
 -- a row by its type that fits it
 abbrev pub fitting_row : DType → Data → Option (Option Value)
 fitting_row t d = row_of t d >>= fitted_row t
+
+-- what a call did that puts the row that a reading gives at the end of rows
+abbrev pub Pushes : Result ⊤ Unread → Option (Option Value) → List (Option Value) → List (Option Value) → Type 0
+Pushes (Ok done) reading old new = (reading >>= λ row. Some (old ++ row ∷ [])) ≡ Some new
+Pushes (Err e) reading old new = Fails e reading
+
+-- a whole number in the range of its type
+abbrev pub fitting_integer : PType → Data → Option ℤ
+fitting_integer p d = integer_of d >>= λ z. if is_in_range p z then Some z else None
+
+abbrev pub integer_row : PType → Data → Option (Option Value)
+integer_row p d = fitting_integer p d >>= λ z. Some (Some (Int z))

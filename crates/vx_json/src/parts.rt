@@ -87,9 +87,8 @@ fn column_of(
     ensures { Gives (λ c. c) result (spec.fitted_rows dtype (view items.now)) }
 {
     let rows = rows_of(alloc, &dtype, items, trail)?;
-    match FlatColumn::try_new(alloc, dtype, rows) {
+    match FlatColumn::from_buffer(alloc, dtype, rows) {
         Ok(column) => Ok(column),
-        // Each row was found to fit, so nothing else can be wrong.
         Err(_) => Err(Unread::OutOfMemory),
     }
 }

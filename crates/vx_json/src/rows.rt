@@ -4,14 +4,18 @@ ghost use Rattle.serde_json.specs.Find.{as_str};
 ghost use Rattle.serde_json.specs.View.{view};
 ghost use Rattle.vx_json.specs.Forms.{Gives, list_of};
 ghost use Rattle.vx_json.specs.Rows as spec;
+ghost use Rattle.vx_json.specs.Rows.{Pushes};
+ghost use Rattle.vx_json.specs.Forms.{integer_of as integer_spec};
+ghost use Rattle.vx_rows.specs.Fits.{is_in_range as is_in_range_spec};
 
 use crate::forms::{Unread, array_of, bool_of, integer_of, text_of};
 use crate::reason::{Reason, Trail};
 use crate::texts::{bytes_of, unscaled_of};
 use serde_json::Value as Json;
 use std::alloc::Global;
+use vx_buffers::RowBuffer;
 use vx_rows::fits::row_fits;
-use vx_rows::{DType, PType, Row, Seq, Text, Value};
+use vx_rows::{DType, PType, Row, Text, Value};
 
 /// A copy of a text.
 fn utf8_of(alloc: Global, value: &Json, trail: &Trail<'_>) -> Result<Text, Unread>
@@ -66,18 +70,25 @@ pub fn row_of(alloc: Global, dtype: &DType, value: &Json, trail: &Trail<'_>) -> 
     Ok(Some(value_of(alloc, dtype, value, trail)?))
 }
 
+/// What the type is called.
+fn ptype_name(ptype: PType) -> &'static str {
+    match ptype {
+        PType::U8 => "u8",
+        PType::U16 => "u16",
+        PType::U32 => "u32",
+        PType::U64 => "u64",
+        PType::I8 => "i8",
+        PType::I16 => "i16",
+        PType::I32 => "i32",
+        PType::I64 => "i64",
+    }
+}
+
 /// What a row of the type is called.
 fn kind_name(dtype: &DType) -> &'static str {
     match dtype {
         DType::Bool(_) => "bool",
-        DType::Primitive(PType::U8, _) => "u8",
-        DType::Primitive(PType::U16, _) => "u16",
-        DType::Primitive(PType::U32, _) => "u32",
-        DType::Primitive(PType::U64, _) => "u64",
-        DType::Primitive(PType::I8, _) => "i8",
-        DType::Primitive(PType::I16, _) => "i16",
-        DType::Primitive(PType::I32, _) => "i32",
-        DType::Primitive(PType::I64, _) => "i64",
+        DType::Primitive(ptype, _) => ptype_name(*ptype),
         DType::Decimal(_, _) => "decimal",
         DType::Utf8(_) => "utf8",
         DType::Binary(_) => "binary",
@@ -114,19 +125,99 @@ fn fitting_row(alloc: Global, dtype: &DType, value: &Json, trail: &Trail<'_>) ->
     Ok(row)
 }
 
+/// The whole number that a value is.
+fn integer_in(value: &Json) -> Option<i128>
+    ensures { result ≡ integer_spec (view value.now) }
+{
+    match value {
+        Json::Number(number) => number.as_i128(),
+        _ => None,
+    }
+}
+
+/// Whether the number is in the type's range.
+fn is_in_range(ptype: PType, integer: i128) -> bool
+    ensures { result ≡ is_in_range_spec ptype integer }
+{
+    ptype.min() <= integer && integer <= ptype.max()
+}
+
+/// A whole number in the range of its type.
+fn fitting_integer(ptype: PType, value: &Json, trail: &Trail<'_>) -> Result<i128, Unread>
+    ensures { Gives (λ z. z) result (spec.fitting_integer ptype (view value.now)) }
+{
+    match integer_in(value) {
+        Some(integer) if is_in_range(ptype, integer) => Ok(integer),
+        _ => Err(Unread::NoForm(trail.is_no(value, ptype_name(ptype)))),
+    }
+}
+
+/// Puts an integer in the range of its type at the end of the rows.
+fn push_integer(
+    alloc: Global,
+    ptype: PType,
+    value: &Json,
+    trail: &Trail<'_>,
+    rows: &mut RowBuffer,
+) -> Result<(), Unread>
+    ensures { Pushes result (spec.integer_row ptype (view value.now)) rows.old rows.new }
+{
+    let integer = fitting_integer(ptype, value, trail)?;
+    match rows.push_int(alloc, integer) {
+        Ok(()) => Ok(()),
+        Err(_) => Err(Unread::OutOfMemory),
+    }
+}
+
+/// Puts a row that fits its type at the end of the rows.
+fn push_fitting(
+    alloc: Global,
+    dtype: &DType,
+    value: &Json,
+    trail: &Trail<'_>,
+    rows: &mut RowBuffer,
+) -> Result<(), Unread>
+    ensures { Pushes result (spec.fitting_row dtype.now (view value.now)) rows.old rows.new }
+{
+    let row = fitting_row(alloc, dtype, value, trail)?;
+    match rows.push(alloc, row) {
+        Ok(()) => Ok(()),
+        Err(_) => Err(Unread::OutOfMemory),
+    }
+}
+
+/// The same, where an integer is no row on its way.
+fn push_row(
+    alloc: Global,
+    dtype: &DType,
+    value: &Json,
+    trail: &Trail<'_>,
+    rows: &mut RowBuffer,
+) -> Result<(), Unread>
+    ensures { Pushes result (spec.fitting_row dtype.now (view value.now)) rows.old rows.new }
+{
+    match dtype {
+        DType::Primitive(ptype, _) if !value.is_null() => {
+            push_integer(alloc, *ptype, value, trail, rows)
+        }
+        _ => push_fitting(alloc, dtype, value, trail, rows),
+    }
+}
+
 /// A list of rows of a type, each of which fits it.
 pub fn rows_of(
     alloc: Global,
     dtype: &DType,
     value: &Json,
     trail: &Trail<'_>,
-) -> Result<Seq<Row>, Unread>
+) -> Result<RowBuffer, Unread>
     ensures { Gives (λ rs. rs) result (list_of (spec.fitting_row dtype.now) (view value.now)) }
 {
     let items = array_of(value, trail)?;
-    let mut rows = Vec::with_capacity(alloc, items.len())?;
+    let mut rows = RowBuffer::new(alloc, dtype);
     for item in items {
-        rows.push(fitting_row(alloc, dtype, item, &Trail::Item(trail, rows.len()))?)?;
+        let place = Trail::Item(&*trail, rows.len());
+        push_row(alloc, dtype, item, &place, &mut rows)?;
     }
-    Ok(Seq::from_vec(rows))
+    Ok(rows)
 }

@@ -24,11 +24,11 @@ pub enum Reply {
 /// The reply to the bytes of a job, or why they are none.
 pub fn reply_to<L: Ledger>(
     alloc: Global,
-    bytes: &[u8],
+    bytes: Vec<u8>,
     steps: &mut Steps<L>,
 ) -> Res<Result<Reply, Reason>>
     ensures ok { IfOk result (λ read. MatchResult read
-        (λ reply. AnswersBytes bytes.now reply steps.old steps.new) (λ _. HasNoJob bytes.now)) }
+        (λ reply. AnswersBytes bytes.items reply steps.old steps.new) (λ _. HasNoJob bytes.items)) }
     ensures err { IsOkUnless result ColumnError.OutOfMemory }
     ensures monotone { steps.old ≤ steps.new }
 {

@@ -107,7 +107,7 @@ fn read_reply<S: Source, L: Ledger>(
         Err(ReadError::TooLong) => return Err(Status::TooLong),
         Err(ReadError::OutOfMemory) => return Err(Status::OutOfMemory),
     };
-    match reply_to(alloc, &bytes, steps) {
+    match reply_to(alloc, bytes, steps) {
         Ok(Ok(reply)) => Ok(reply),
         Ok(Err(reason)) => {
             note.keep(reason);

@@ -1,6 +1,6 @@
 use Rattle.std.proofs.Common.{Some, ap, sym, ◌∙◌}
 use Rattle.std.proofs.lemmas.Result.{err_from_is_err_and}
-use Rattle.vx_json.proofs.Fitted.{read_rows, fails_fitted}
+use Rattle.vx_json.proofs.Fitted.{read_rows, fails_fitted, rows_that_fit}
 use Rattle.vx_json.proofs.parts.column_of.Goals as goal
 
 pub returns-in_err-rows : goal.returns-in_err-rows
@@ -9,4 +9,7 @@ returns-in_err-rows c =
     rw (p.1, p.2) (fails_fitted _ _ _ c.in_err-rows.ensures)
 
 pub returns-in-Ok : goal.returns-in-Ok
-returns-in-Ok c = read_rows _ _ _ c.in_ok-rows.ensures ∙ ap Some (sym c.in-Ok.ensures.ok.0)
+returns-in-Ok c = read_rows _ _ _ c.in_ok-rows.ensures ∙ ap Some (sym c.in-Ok.ensures.ok)
+
+pub from_buffer-requires : goal.from_buffer-requires
+from_buffer-requires c = rows_that_fit _ _ _ c.in_ok-rows.ensures

@@ -2,19 +2,20 @@ use Rattle.std.proofs.Common.{Some, ap, sym, ◌∙◌}
 use Rattle.std.proofs.lemmas.Result.{err_from_is_err_and}
 use Rattle.serde_json.specs.View.{items_view}
 use Rattle.vx_json.specs.Rows.{fitting_row}
-use Rattle.vx_json.proofs.Readings.{all_items-next, list_fails}
+use Rattle.vx_json.proofs.Readings.{all_items-grown, list_fails}
 use Rattle.vx_json.proofs.rows.rows_of.Goals as goal
 
-pub returns-in_err-fitting_row : goal.returns-in_err-fitting_row
-returns-in_err-fitting_row c =
-    let p = err_from_is_err_and c.from_residual-in_err-fitting_row.result
-    c.from_residual-in_err-fitting_row.ensures.1 in
+pub returns-in_err-push_row : goal.returns-in_err-push_row
+returns-in_err-push_row c =
+    let p = err_from_is_err_and c.from_residual-in_err-push_row.result
+    c.from_residual-in_err-push_row.ensures.1 in
     rw (p.1, p.2) (list_fails (fitting_row c.args.dtype.now) _ c.deref-item-items.result.now c.loop-item.item-index
     c.item-item.result _
     (c.in_ok-items.ensures ∙ ap (λ vs. Some (items_view vs)) (sym c.deref-item-items.ensures.value))
-    c.loop-item-test.true c.item-item.is c.in_err-fitting_row.ensures)
+    c.loop-item-test.true c.item-item.is c.in_err-push_row.ensures)
 
 pub loop-item-preserved : goal.loop-item-preserved
 loop-item-preserved c =
-    rw c.in_ok-push.ensures.items (all_items-next (fitting_row c.args.dtype.now) c.deref-item-items.result.now c.loop-item.item-index
-    c.item-item.result _ _ c.loop-item-test.true c.item-item.is c.loop-item.invariant c.in_ok-fitting_row.ensures)
+    all_items-grown (fitting_row c.args.dtype.now) c.deref-item-items.result.now
+    c.loop-item.item-index c.item-item.result _ _ c.loop-item-test.true c.item-item.is c.loop-item.invariant
+    c.in_ok-push_row.ensures

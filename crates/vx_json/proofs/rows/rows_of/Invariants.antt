@@ -5,4 +5,4 @@ use Rattle.vx_json.specs.Rows.{fitting_row}
 use Rattle.vx_json.proofs.rows.rows_of.Given as goal
 
 abbrev pub invariant-loop-item : goal.invariant-loop-item
-invariant-loop-item l = all_items (fitting_row l.dtype) (items_view (take l.item-index l.item-items)) ≡ Some l.rows.items
+invariant-loop-item l = all_items (fitting_row l.dtype) (items_view (take l.item-index l.item-items)) ≡ Some l.rows
