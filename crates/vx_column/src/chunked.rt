@@ -20,7 +20,9 @@ use crate::iterators::{ChunkIter, NonEmptyChunks};
 use crate::kinds::{lens_of, malformed};
 use std::alloc::Global;
 use vx_base::dtype::same_type;
-use vx_base::{ColumnError, DType, FlatColumn, Ledger, Res, Row, RowBuffer, Rule, Seq, Shared, Steps};
+use vx_base::{
+    ColumnError, DType, FlatColumn, Ledger, Res, Row, RowBuffer, Rule, Seq, Shared, Steps,
+};
 use vx_chunks::{Boundaries, SlicePlan};
 
 /// Chunks of one type, whose rows are joined in order. Generic in the child, so that columns are the only type that

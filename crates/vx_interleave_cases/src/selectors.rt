@@ -80,7 +80,10 @@ fn same_data(alloc: Global, num_values: usize, other: usize) -> Res<String> {
     let other = InterleaveData { num_values: other };
     let copy = other.clone()?;
     let same = data == copy;
-    Ok(format!(in alloc; "{same}, hashes {}", same && hash_of(&data) == hash_of(&other))?)
+    Ok(format!(in alloc;
+        "{same}, hashes {}",
+        same && hash_of(&data) == hash_of(&other)
+    )?)
 }
 
 impl Asked for AskedSelectors {

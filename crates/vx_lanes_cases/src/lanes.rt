@@ -171,7 +171,10 @@ fn same_data(alloc: Global, lanes: &Lanes, call: &Call<'_>) -> Result<String, Al
     };
     let copy = other.clone()?;
     let same = data == copy;
-    format!(in alloc; "{same}, hashes {}", same && hash_of(&data) == hash_of(&other))
+    format!(in alloc;
+        "{same}, hashes {}",
+        same && hash_of(&data) == hash_of(&other)
+    )
 }
 
 /// The numbers of the slots of a patched array.
