@@ -14,66 +14,24 @@ get_rows f [] i = refl
 get_rows f (x ∷ xs) zero = refl
 get_rows f (x ∷ xs) (suc i) = get_rows f xs i
 
-pub valid_rows : {A B : Type 0} (f : A → B) (xs : List (Option A)) (i : ℕ) → is_some (get_or (map (option_map f) xs) i None) ≡ is_some (get_or xs i None)
-valid_rows f [] i = refl
-valid_rows f (None ∷ xs) zero = refl
-valid_rows f (Some x ∷ xs) zero = refl
-valid_rows f (x ∷ xs) (suc i) = valid_rows f xs i
-
 pub push_rows : {A B : Type 0} (f : A → B) (xs : List (Option A)) (x : Option A) → map (option_map f) (xs ++ x ∷ []) ≡ map (option_map f) xs ++ option_map f x ∷ []
 push_rows f [] x = refl
 push_rows f (y ∷ xs) x = ap (λ r. option_map f y ∷ r) (push_rows f xs x)
 
-bool_int : (b : Bool) → row_int (Some (BoolValue b)) ≡ None
+pub bool_int : (b : Bool) → row_int (Some (BoolValue b)) ≡ None
 bool_int b = ap (λ v. layer_int (out-Value v)) (sym (rolls-Bool b)) ∙ ap layer_int (out-roll-Value (Value-F.Bool b))
 
-pub bool_at : (xs : List (Option Bool)) (i : ℕ) → row_int (get_or (bool_rows xs) i None) ≡ None
-bool_at [] i = refl
-bool_at (None ∷ xs) zero = refl
-bool_at (Some b ∷ xs) zero = bool_int b
-bool_at (x ∷ xs) (suc i) = bool_at xs i
-
-decimal_int : (z : ℤ) → row_int (Some (Decimal z)) ≡ None
+pub decimal_int : (z : ℤ) → row_int (Some (Decimal z)) ≡ None
 decimal_int z = ap (λ v. layer_int (out-Value v)) (sym (rolls-Decimal z)) ∙ ap layer_int (out-roll-Value (Value-F.Decimal z))
 
-pub decimal_at : (xs : List (Option ℤ)) (i : ℕ) → row_int (get_or (decimal_rows xs) i None) ≡ None
-decimal_at [] i = refl
-decimal_at (None ∷ xs) zero = refl
-decimal_at (Some z ∷ xs) zero = decimal_int z
-decimal_at (x ∷ xs) (suc i) = decimal_at xs i
-
-text_int : (s : List ℕ) → row_int (Some (Utf8 s)) ≡ None
+pub text_int : (s : List ℕ) → row_int (Some (Utf8 s)) ≡ None
 text_int s = ap (λ v. layer_int (out-Value v)) (sym (rolls-Utf8 s)) ∙ ap layer_int (out-roll-Value (Value-F.Utf8 s))
 
-pub text_at : (xs : List (Option (List ℕ))) (i : ℕ) → row_int (get_or (text_rows xs) i None) ≡ None
-text_at [] i = refl
-text_at (None ∷ xs) zero = refl
-text_at (Some s ∷ xs) zero = text_int s
-text_at (x ∷ xs) (suc i) = text_at xs i
-
-binary_int : (s : List ℕ) → row_int (Some (Binary s)) ≡ None
+pub binary_int : (s : List ℕ) → row_int (Some (Binary s)) ≡ None
 binary_int s = ap (λ v. layer_int (out-Value v)) (sym (rolls-Binary s)) ∙ ap layer_int (out-roll-Value (Value-F.Binary s))
 
-pub binary_at : (xs : List (Option (List ℕ))) (i : ℕ) → row_int (get_or (binary_rows xs) i None) ≡ None
-binary_at [] i = refl
-binary_at (None ∷ xs) zero = refl
-binary_at (Some s ∷ xs) zero = binary_int s
-binary_at (x ∷ xs) (suc i) = binary_at xs i
-
-int_int : (z : ℤ) → row_int (Some (Int z)) ≡ Some z
+pub int_int : (z : ℤ) → row_int (Some (Int z)) ≡ Some z
 int_int z = ap (λ v. layer_int (out-Value v)) (sym (rolls-Int z)) ∙ ap layer_int (out-roll-Value (Value-F.Int z))
-
-pub int_at : (xs : List (Option ℤ)) (i : ℕ) → row_int (get_or (int_rows xs) i None) ≡ get_or xs i None
-int_at [] i = refl
-int_at (None ∷ xs) zero = refl
-int_at (Some z ∷ xs) zero = int_int z
-int_at (x ∷ xs) (suc i) = int_at xs i
-
-pub long_at : (xs : List (Option ℕ)) (i : ℕ) → row_int (get_or (long_rows xs) i None) ≡ option_map pos (get_or xs i None)
-long_at [] i = refl
-long_at (None ∷ xs) zero = refl
-long_at (Some n ∷ xs) zero = int_int (pos n)
-long_at (x ∷ xs) (suc i) = long_at xs i
 
 take_one : {X : Type 0} (xs : List X) (k : ℕ) (d : X) → k < length xs → take (suc k) xs ≡ take k xs ++ get_or xs k d ∷ []
 take_one [] k d h = absurd (omega arith)

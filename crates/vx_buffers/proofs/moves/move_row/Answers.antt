@@ -10,11 +10,10 @@ returns-in_ok-push-in-Rows-clause-ok c =
     let row = c.pop_row.result in
     let rows = c.in-Rows.rows.items in
     let last = c.len-last.result - 1 in
-    let at : length rows ≡ last = omega (arith, c.in-Rows.rows.ok.0, c.in_ok-push-in-Rows.ensures.len) in
-    (
+    let at : length rows ≡ last = omega (arith, c.in-Rows.rows.ok.0, c.in_ok-push-in-Rows.ensures.len) in (
       row,
       c.pop_row.ensures,
       ap (λ (rs : List (Option Value)). slice_set rs last row) c.in_ok-push-in-Rows.ensures.items
-      ∙ set_at rows None [] row last at
-      ∙ ap (λ (s : Store). rows_of s ++ row ∷ []) (sym c.in-Rows.is),
+          ∙ set_at rows None [] row last at
+          ∙ ap (λ (s : Store). rows_of s ++ row ∷ []) (sym c.in-Rows.is),
     )
