@@ -54,7 +54,6 @@ impl<'a> RowRef<'a> {
     }
 
     /// The number of the row, where it is an integer.
-    #[tactic(auto, using(crate::proofs::Rows::bool_int, crate::proofs::Rows::decimal_int, crate::proofs::Rows::text_int, crate::proofs::Rows::binary_int, crate::proofs::Rows::int_int))]
     pub fn int(&self) -> Option<i128>
         ensures { result ≡ row_int (row_of_ref self.now) }
     {
