@@ -12,12 +12,10 @@ use std::alloc::Global;
 use std::cmp::Ordering;
 use std::marker::Model;
 use std::ops::Range;
-use vx_buffers::RowBuffer;
+use vx_buffers::{RowBuffer, RowRef};
 use vx_rows::copy::{copy_row, repeat_row};
 use vx_rows::fits::{row_fits, rows_fit};
-use vx_rows::{
-    ColumnError, DType, Nullability, PType, Path, Res, Row, Rule, Seq, Shared, Value, order,
-};
+use vx_rows::{ColumnError, DType, Nullability, PType, Path, Res, Row, Rule, Seq, Shared, order};
 
 /// Where the rows stand.
 #[derive(Drop)]
@@ -247,7 +245,7 @@ impl FlatColumn {
     {
         match &self.source {
             Source::Rows(rows) => rows.get().int(self.start + i),
-            Source::Constant(row) => number_of(row.get()),
+            Source::Constant(row) => RowRef::new(row.get()).int(),
         }
     }
 
@@ -395,14 +393,5 @@ impl FlatColumn {
         let count = range.end - range.start;
         steps.add(count);
         self.extend(alloc, range, out)
-    }
-}
-
-fn number_of(row: &Row) -> Option<i128>
-    ensures { result ≡ row_int row.now }
-{
-    match row {
-        Some(Value::Int(number)) => Some(*number),
-        _ => None,
     }
 }

@@ -1,5 +1,5 @@
 -- Which packed rows fit a type.
-use Rattle.std.proofs.Common.{ℕ, zero, suc, ℤ, pos, negsuc, ◌≡◌, ◌<◌, ◌≤◌, ◌+◌, ◌^◌, ◌∙◌, ap, sym, refl, arith, Bool, true, false, ◌&&◌, int_le, nat_lt, nat_le, unsigned_abs, List, [], ◌∷◌, length, drop, get_or, map, Option, Some, None}
+use Rattle.std.proofs.Common.{ℕ, zero, suc, ℤ, pos, negsuc, ◌≡◌, ◌<◌, ◌≤◌, ◌+◌, ◌∙◌, ap, sym, refl, arith, Bool, true, false, ◌&&◌, int_le, nat_lt, nat_le, unsigned_abs, List, [], ◌∷◌, length, drop, get_or, map, Option, Some, None}
 use Rattle.std.specs.Option.{option_map}
 use Rattle.std.specs.List.{list_all}
 use Rattle.std.proofs.lemmas.List.{length-map}

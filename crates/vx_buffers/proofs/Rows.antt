@@ -1,92 +1,25 @@
 -- The rows of what is packed.
-use Rattle.std.proofs.Common.{ℕ, zero, suc, ℤ, pos, ◌≡◌, ◌<◌, ◌≤◌, ◌+◌, ◌-◌, ◌∙◌, ap, sym, refl, arith, Bool, List, [], ◌∷◌, ◌++◌, length, get_or, take, drop, map, Option, Some, None, is_some, reverse, append_assoc}
+use Rattle.std.proofs.Common.{ℕ, zero, suc, ◌≡◌, ◌<◌, ◌≤◌, ◌+◌, ◌-◌, ◌∙◌, ap, sym, refl, arith, List, [], ◌∷◌, ◌++◌, length, get_or, take, drop, map, Option, None, reverse, append_assoc}
 use Rattle.std.specs.Option.{option_map}
-use Rattle.std.specs.List.{slice_range}
-use Rattle.std.proofs.lemmas.List.{get_or-drop, length-drop, length-map, map-append, reverse-append}
-use Rattle.vx_rows.specs.declared.value.Value.{Value, Bool as BoolValue, Int, Decimal, Utf8, Binary, out-Value, out-roll-Value}
-use Rattle.vx_rows.specs.declared.value.Value.TheOpen.{Value-F}
-use Rattle.vx_rows.specs.declared.value.Value.TheVariants.{rolls-Bool, rolls-Int, rolls-Decimal, rolls-Utf8, rolls-Binary}
-use Rattle.vx_buffers.specs.Stores.{bool_rows, int_rows, long_rows, decimal_rows, text_rows, binary_rows}
-use Rattle.vx_buffers.specs.Numbers.{row_int, layer_int}
+use Rattle.std.specs.List.{slice_range, take-map, drop-map}
+use Rattle.std.proofs.lemmas.List.{take_more, get_or-drop, length-drop, length-map, map-append, reverse-append}
 
 pub get_rows : {A B : Type 0} (f : A → B) (xs : List (Option A)) (i : ℕ) → get_or (map (option_map f) xs) i None ≡ option_map f (get_or xs i None)
 get_rows f [] i = refl
 get_rows f (x ∷ xs) zero = refl
 get_rows f (x ∷ xs) (suc i) = get_rows f xs i
 
-pub valid_rows : {A B : Type 0} (f : A → B) (xs : List (Option A)) (i : ℕ) → is_some (get_or (map (option_map f) xs) i None) ≡ is_some (get_or xs i None)
-valid_rows f [] i = refl
-valid_rows f (None ∷ xs) zero = refl
-valid_rows f (Some x ∷ xs) zero = refl
-valid_rows f (x ∷ xs) (suc i) = valid_rows f xs i
-
 pub push_rows : {A B : Type 0} (f : A → B) (xs : List (Option A)) (x : Option A) → map (option_map f) (xs ++ x ∷ []) ≡ map (option_map f) xs ++ option_map f x ∷ []
 push_rows f [] x = refl
 push_rows f (y ∷ xs) x = ap (λ r. option_map f y ∷ r) (push_rows f xs x)
 
-bool_int : (b : Bool) → row_int (Some (BoolValue b)) ≡ None
-bool_int b = ap (λ v. layer_int (out-Value v)) (sym (rolls-Bool b)) ∙ ap layer_int (out-roll-Value (Value-F.Bool b))
-
-pub bool_at : (xs : List (Option Bool)) (i : ℕ) → row_int (get_or (bool_rows xs) i None) ≡ None
-bool_at [] i = refl
-bool_at (None ∷ xs) zero = refl
-bool_at (Some b ∷ xs) zero = bool_int b
-bool_at (x ∷ xs) (suc i) = bool_at xs i
-
-decimal_int : (z : ℤ) → row_int (Some (Decimal z)) ≡ None
-decimal_int z = ap (λ v. layer_int (out-Value v)) (sym (rolls-Decimal z)) ∙ ap layer_int (out-roll-Value (Value-F.Decimal z))
-
-pub decimal_at : (xs : List (Option ℤ)) (i : ℕ) → row_int (get_or (decimal_rows xs) i None) ≡ None
-decimal_at [] i = refl
-decimal_at (None ∷ xs) zero = refl
-decimal_at (Some z ∷ xs) zero = decimal_int z
-decimal_at (x ∷ xs) (suc i) = decimal_at xs i
-
-text_int : (s : List ℕ) → row_int (Some (Utf8 s)) ≡ None
-text_int s = ap (λ v. layer_int (out-Value v)) (sym (rolls-Utf8 s)) ∙ ap layer_int (out-roll-Value (Value-F.Utf8 s))
-
-pub text_at : (xs : List (Option (List ℕ))) (i : ℕ) → row_int (get_or (text_rows xs) i None) ≡ None
-text_at [] i = refl
-text_at (None ∷ xs) zero = refl
-text_at (Some s ∷ xs) zero = text_int s
-text_at (x ∷ xs) (suc i) = text_at xs i
-
-binary_int : (s : List ℕ) → row_int (Some (Binary s)) ≡ None
-binary_int s = ap (λ v. layer_int (out-Value v)) (sym (rolls-Binary s)) ∙ ap layer_int (out-roll-Value (Value-F.Binary s))
-
-pub binary_at : (xs : List (Option (List ℕ))) (i : ℕ) → row_int (get_or (binary_rows xs) i None) ≡ None
-binary_at [] i = refl
-binary_at (None ∷ xs) zero = refl
-binary_at (Some s ∷ xs) zero = binary_int s
-binary_at (x ∷ xs) (suc i) = binary_at xs i
-
-int_int : (z : ℤ) → row_int (Some (Int z)) ≡ Some z
-int_int z = ap (λ v. layer_int (out-Value v)) (sym (rolls-Int z)) ∙ ap layer_int (out-roll-Value (Value-F.Int z))
-
-pub int_at : (xs : List (Option ℤ)) (i : ℕ) → row_int (get_or (int_rows xs) i None) ≡ get_or xs i None
-int_at [] i = refl
-int_at (None ∷ xs) zero = refl
-int_at (Some z ∷ xs) zero = int_int z
-int_at (x ∷ xs) (suc i) = int_at xs i
-
-pub long_at : (xs : List (Option ℕ)) (i : ℕ) → row_int (get_or (long_rows xs) i None) ≡ option_map pos (get_or xs i None)
-long_at [] i = refl
-long_at (None ∷ xs) zero = refl
-long_at (Some n ∷ xs) zero = int_int (pos n)
-long_at (x ∷ xs) (suc i) = long_at xs i
-
-take_one : {X : Type 0} (xs : List X) (k : ℕ) (d : X) → k < length xs → take (suc k) xs ≡ take k xs ++ get_or xs k d ∷ []
-take_one [] k d h = absurd (omega arith)
-take_one (x ∷ xs) zero d h = refl
-take_one (x ∷ xs) (suc k) d h = ap (λ r. x ∷ r) (take_one xs k d (omega arith))
-
 -- a range of one more
 pub range_more : {X : Type 0} (xs : List X) (a i : ℕ) (d : X) → a ≤ i → i < length xs → slice_range xs a (i + 1) ≡ slice_range xs a i ++ get_or xs i d ∷ []
 range_more xs a i d o h =
-    let e : i + 1 - a ≡ suc (i - a) = omega arith in
+    let e : i + 1 - a ≡ i - a + 1 = omega arith in
     let f : a + (i - a) ≡ i = omega arith in
     ap (λ n. take n (drop a xs)) e
-    ∙ take_one (drop a xs) (i - a) d (omega (arith, length-drop a xs))
+    ∙ take_more (drop a xs) (i - a) d (omega (arith, length-drop a xs))
     ∙ ap (λ x. slice_range xs a i ++ x ∷ []) (get_or-drop a xs (i - a) d ∙ ap (λ n. get_or xs n d) f)
 
 -- a range of one more, behind other elements
@@ -97,16 +30,6 @@ range_grows u v w xs a i x d so_far order inside next at =
 pub length_rows : {A B : Type 0} (f : A → B) (xs : List (Option A)) → length (map (option_map f) xs) ≡ length xs
 length_rows f xs = length-map xs (option_map f)
 
-take_map : {A B : Type 0} (f : A → B) (n : ℕ) (xs : List A) → map f (take n xs) ≡ take n (map f xs)
-take_map f zero xs = refl
-take_map f (suc n) [] = refl
-take_map f (suc n) (x ∷ xs) = ap (λ r. f x ∷ r) (take_map f n xs)
-
-drop_map : {A B : Type 0} (f : A → B) (n : ℕ) (xs : List A) → map f (drop n xs) ≡ drop n (map f xs)
-drop_map f zero xs = refl
-drop_map f (suc n) [] = refl
-drop_map f (suc n) (x ∷ xs) = drop_map f n xs
-
 map_reverse : {A B : Type 0} (f : A → B) (xs : List A) → map f (reverse xs) ≡ reverse (map f xs)
 map_reverse f [] = refl
 map_reverse f (x ∷ xs) =
@@ -116,7 +39,7 @@ map_reverse f (x ∷ xs) =
     ∙ sym (reverse-append (f x ∷ []) (map f xs))
 
 pub take_rows : {A B : Type 0} (f : A → B) (n : ℕ) (xs : List (Option A)) → map (option_map f) (take n xs) ≡ take n (map (option_map f) xs)
-take_rows f n xs = take_map (option_map f) n xs
+take_rows f n xs = sym (take-map (option_map f) n xs)
 
 pub reverse_rows : {A B : Type 0} (f : A → B) (xs : List (Option A)) → map (option_map f) (reverse xs) ≡ reverse (map (option_map f) xs)
 reverse_rows f xs = map_reverse (option_map f) xs
@@ -124,4 +47,4 @@ reverse_rows f xs = map_reverse (option_map f) xs
 pub extend_rows : {A B : Type 0} (f : A → B) (xs ys : List (Option A)) (a b : ℕ) → map (option_map f) (xs ++ slice_range ys a b) ≡ map (option_map f) xs ++ slice_range (map (option_map f) ys) a b
 extend_rows f xs ys a b =
     map-append (option_map f) xs (slice_range ys a b)
-    ∙ ap (λ r. map (option_map f) xs ++ r) (take_map (option_map f) (b - a) (drop a ys) ∙ ap (take (b - a)) (drop_map (option_map f) a ys))
+    ∙ ap (λ r. map (option_map f) xs ++ r) (sym (take-map (option_map f) (b - a) (drop a ys)) ∙ ap (take (b - a)) (sym (drop-map (option_map f) a ys)))

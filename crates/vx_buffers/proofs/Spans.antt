@@ -1,13 +1,12 @@
 -- Byte strings that spans cut out of a run of bytes.
-use Rattle.std.proofs.Common.{ℕ, zero, suc, ◌≡◌, ◌∙◌, ◌+◌, ◌-◌, ◌≤◌, ◌<◌, ap, refl, arith, List, [], ◌∷◌, ◌++◌, length, take, drop, reverse, get_or, map, Option, Some, None, All}
+use Rattle.std.proofs.Common.{ℕ, ◌≡◌, ◌∙◌, ◌+◌, ◌-◌, ◌≤◌, ap, refl, arith, List, [], ◌∷◌, ◌++◌, length, take, drop, reverse, Option, Some, None}
 use Rattle.std.specs.Option.{option_map}
-use Rattle.std.specs.List.{slice_range}
 use Rattle.std.proofs.lemmas.List.{length-map, map-append, length-append, take-append-le, drop-append-le, length-drop, take_all}
 use Rattle.std.proofs.Math.Seq.{drop-append_seam}
 use Rattle.std.proofs.lemmas.List.Elements.{All-head, All-tail}
 use Rattle.vx_buffers.specs.declared.binaries.Span.{Span}
-use Rattle.vx_buffers.specs.Spans.{piece, pieces, IsInside, IsSound, IsText, AreTexts}
-use Rattle.vx_buffers.proofs.Rows.{get_rows, take_rows, reverse_rows}
+use Rattle.vx_buffers.specs.Spans.{piece, pieces, IsInside, IsSound}
+use Rattle.vx_buffers.proofs.Rows.{take_rows, reverse_rows}
 
 pub length_pieces : (bytes : List ℕ) (spans : List (Option Span)) → length (pieces bytes spans) ≡ length spans
 length_pieces bytes spans = length-map spans (option_map (piece bytes))

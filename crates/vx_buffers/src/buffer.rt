@@ -8,19 +8,17 @@ ghost use Rattle.vx_rows.specs.declared.value.Value.{Value as AnyValue, Bool as 
 ghost use Rattle.vx_buffers.specs.Numbers.{row_int};
 ghost use Rattle.vx_buffers.specs.Refs.{row_of_ref};
 ghost use Rattle.vx_buffers.specs.Rows.{RowList};
-ghost use Rattle.vx_buffers.specs.Stores.{Offered};
 
 use crate::fitting::store_fits;
 use crate::moves::move_last;
-use crate::offers::{offer, offer_bytes, offer_number, offer_range, offer_str};
+use crate::offers::{offer, offer_range};
 use crate::row_ref::RowRef;
 use crate::store::Store;
 use std::alloc::Global;
 use std::cmp::Ordering;
 use std::marker::Model;
 use std::ops::Range;
-use vx_rows::copy::copy_value;
-use vx_rows::{ColumnError, DType, Res, Row, Seq, Text, Value};
+use vx_rows::{ColumnError, DType, Res, Row, Seq};
 
 /// A growable list of rows. Booleans, integers, decimals, texts and byte strings are packed, if all values are of one kind: a
 /// row of another kind than the buffer packs is taken too, and then none is packed. Contracts see the list of rows.
@@ -100,7 +98,7 @@ impl RowBuffer {
         ensures err { IsOkUnless result ColumnError.OutOfMemory }
         ensures free { IsFalse (row_takes_memory (get_or self.now i None)) → IsOk result }
     {
-        self.store.row(alloc, i)
+        self.get(i).to_row(alloc)
     }
 
     /// The number of row `i`, where it is an integer.
@@ -108,7 +106,7 @@ impl RowBuffer {
         requires { i < length self.now }
         ensures { result ≡ row_int (get_or self.now i None) }
     {
-        self.store.int(i)
+        self.get(i).int()
     }
 
     /// Whether row `i` is a value.
@@ -116,7 +114,7 @@ impl RowBuffer {
         requires { i < length self.now }
         ensures { result ≡ is_some (get_or self.now i None) }
     {
-        self.store.is_valid(i)
+        self.get(i).is_valid()
     }
 
     /// How row `i` stands to `elem`. Takes no memory.
@@ -124,7 +122,7 @@ impl RowBuffer {
         requires { i < length self.now }
         ensures { result ≡ row_cmp (get_or self.now i None) elem.now }
     {
-        self.store.cmp(i, elem)
+        self.get(i).cmp(elem)
     }
 
     /// Copies of the rows of the range.
@@ -151,11 +149,33 @@ impl RowBuffer {
         ensures err { OnErr result (self.new ≡ self.old) }
         ensures refuses { IsOkUnless result ColumnError.OutOfMemory }
     {
-        if let Store::Rows(rows) = &mut self.store {
-            rows.push(row)?;
+        if offer(&mut self.store, &RowRef::new(&row))? {
             return Ok(());
         }
+        self.push_unpacked(alloc, row)
+    }
+
+    /// Puts a copy of the row at the end, as `push` does. A copy of a row that is packed takes no memory of its own.
+    pub fn push_ref(&mut self, alloc: Global, row: RowRef<'_>) -> Res<()>
+        ensures ok { OnOk result (self.new ≡ self.old ++ row_of_ref row.entry ∷ []) }
+        ensures err { OnErr result (self.new ≡ self.old) }
+        ensures refuses { IsOkUnless result ColumnError.OutOfMemory }
+    {
         if offer(&mut self.store, &row)? {
+            return Ok(());
+        }
+        let copy = row.to_row(alloc)?;
+        self.push_unpacked(alloc, copy)
+    }
+
+    /// Puts a row at the end, and packs none.
+    fn push_unpacked(&mut self, alloc: Global, row: Row) -> Res<()>
+        ensures ok { OnOk result (self.new ≡ self.old ++ row ∷ []) }
+        ensures err { OnErr result (self.new ≡ self.old) }
+        ensures refuses { IsOkUnless result ColumnError.OutOfMemory }
+    {
+        if let Store::Rows(rows) = &mut self.store {
+            rows.push(row)?;
             return Ok(());
         }
         let mut rows = self.store.unpacked(alloc)?;
@@ -170,7 +190,7 @@ impl RowBuffer {
         ensures err { OnErr result (self.new ≡ self.old) }
         ensures refuses { IsOkUnless result ColumnError.OutOfMemory }
     {
-        self.push(alloc, None)
+        self.push_ref(alloc, RowRef::Null)
     }
 
     /// Puts a boolean at the end, as `push` does.
@@ -179,7 +199,7 @@ impl RowBuffer {
         ensures err { OnErr result (self.new ≡ self.old) }
         ensures refuses { IsOkUnless result ColumnError.OutOfMemory }
     {
-        self.push(alloc, Some(Value::Bool(truth)))
+        self.push_ref(alloc, RowRef::Bool(truth))
     }
 
     /// Puts an integer at the end, as `push` does.
@@ -188,10 +208,7 @@ impl RowBuffer {
         ensures err { OnErr result (self.new ≡ self.old) }
         ensures refuses { IsOkUnless result ColumnError.OutOfMemory }
     {
-        if offer_number(&mut self.store, number)? {
-            return Ok(());
-        }
-        self.push(alloc, Some(Value::Int(number)))
+        self.push_ref(alloc, RowRef::Int(number))
     }
 
     /// Puts the unscaled number of a decimal at the end, as `push` does.
@@ -200,7 +217,7 @@ impl RowBuffer {
         ensures err { OnErr result (self.new ≡ self.old) }
         ensures refuses { IsOkUnless result ColumnError.OutOfMemory }
     {
-        self.push(alloc, Some(Value::Decimal(unscaled)))
+        self.push_ref(alloc, RowRef::Decimal(unscaled))
     }
 
     /// Puts a copy of the text at the end, as `push` does.
@@ -209,11 +226,7 @@ impl RowBuffer {
         ensures err { OnErr result (self.new ≡ self.old) }
         ensures refuses { IsOkUnless result ColumnError.OutOfMemory }
     {
-        if offer_str(&mut self.store, text)? {
-            return Ok(());
-        }
-        let copy = Text::from_str(alloc, text)?;
-        self.push(alloc, Some(Value::Utf8(copy)))
+        self.push_ref(alloc, RowRef::Utf8(text))
     }
 
     /// Puts a copy of the bytes at the end, as `push` does.
@@ -222,31 +235,7 @@ impl RowBuffer {
         ensures err { OnErr result (self.new ≡ self.old) }
         ensures refuses { IsOkUnless result ColumnError.OutOfMemory }
     {
-        if offer_bytes(&mut self.store, bytes)? {
-            return Ok(());
-        }
-        let copy = Vec::from_slice(alloc, bytes)?;
-        self.push(alloc, Some(Value::Binary(Seq::from_vec(copy))))
-    }
-
-    /// Puts a copy of the row at the end, as `push` does.
-    pub fn push_ref(&mut self, alloc: Global, row: RowRef<'_>) -> Res<()>
-        ensures ok { OnOk result (self.new ≡ self.old ++ row_of_ref row.entry ∷ []) }
-        ensures err { OnErr result (self.new ≡ self.old) }
-        ensures refuses { IsOkUnless result ColumnError.OutOfMemory }
-    {
-        match row {
-            RowRef::Null => self.push_null(alloc),
-            RowRef::Bool(truth) => self.push_bool(alloc, truth),
-            RowRef::Int(number) => self.push_int(alloc, number),
-            RowRef::Decimal(unscaled) => self.push_decimal(alloc, unscaled),
-            RowRef::Utf8(text) => self.push_text(alloc, text),
-            RowRef::Binary(bytes) => self.push_bytes(alloc, bytes),
-            RowRef::Value(value) => {
-                let copy = copy_value(alloc, value)?;
-                self.push(alloc, Some(copy))
-            }
-        }
+        self.push_ref(alloc, RowRef::Binary(bytes))
     }
 
     /// Appends a range of the other rows, at once where both pack the same kind. A refusal leaves the rows as they were.

@@ -34,7 +34,7 @@ fn all_fit(store: &Store, dtype: &DType, value_fits: bool) -> bool
 {
     let null_fits = dtype.nullability().is_nullable();
     for i in 0..store.len() {
-        if !kind_fits(store.is_valid(i), null_fits, value_fits) {
+        if !kind_fits(store.get(i).is_valid(), null_fits, value_fits) {
             return false;
         }
     }

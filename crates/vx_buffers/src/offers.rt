@@ -1,20 +1,21 @@
 //! Rows that are put at the end of a store where they are of the kind that is packed.
 ghost use Rattle.std.specs.Prelude.{◌≡◌, ◌≤◌, ◌++◌, Some, length, IfOk, OnErr};
 ghost use Rattle.std.specs.List.{slice_range};
-ghost use Rattle.vx_rows.specs.declared.value.Value.{Int as IntValue, Utf8 as Utf8Value, Binary as BinaryValue};
+ghost use Rattle.vx_rows.specs.declared.value.Value.{Int as IntValue};
+ghost use Rattle.vx_buffers.specs.Refs.{row_of_ref};
 ghost use Rattle.vx_buffers.specs.Stores.{rows_of, bool_rows, int_rows, long_rows, decimal_rows, text_rows, binary_rows, Offered, Extended};
 
 use crate::binaries::Binaries;
+use crate::row_ref::RowRef;
 use crate::slots::Slots;
 use crate::store::Store;
 use crate::texts::Texts;
 use std::alloc::AllocError;
 use std::ops::Range;
-use vx_rows::{Row, Value};
 
-/// Puts the row at the end where it is of the kind that is packed, and says whether it did.
-pub(crate) fn offer(store: &mut Store, row: &Row) -> Result<bool, AllocError>
-    ensures ok { IfOk result (λ taken. Offered taken (rows_of store.old) (rows_of store.new) row.now) }
+/// Puts a copy of the row at the end where it is of the kind that is packed, and says whether it did.
+pub(crate) fn offer(store: &mut Store, row: &RowRef<'_>) -> Result<bool, AllocError>
+    ensures ok { IfOk result (λ taken. Offered taken (rows_of store.old) (rows_of store.new) (row_of_ref row.now)) }
     ensures err { OnErr result (rows_of store.new ≡ rows_of store.old) }
 {
     match store {
@@ -29,29 +30,34 @@ pub(crate) fn offer(store: &mut Store, row: &Row) -> Result<bool, AllocError>
 }
 
 #[tactic(auto, using(crate::proofs::Rows::push_rows))]
-fn offer_bool(truths: &mut Slots<bool>, row: &Row) -> Result<bool, AllocError>
-    ensures ok { IfOk result (λ taken. Offered taken (bool_rows truths.old) (bool_rows truths.new) row.now) }
+fn offer_bool(truths: &mut Slots<bool>, row: &RowRef<'_>) -> Result<bool, AllocError>
+    ensures ok { IfOk result (λ taken. Offered taken (bool_rows truths.old) (bool_rows truths.new) (row_of_ref row.now)) }
     ensures err { OnErr result (truths.new ≡ truths.old) }
 {
     match row {
-        None => truths.push_null(false)?,
-        Some(Value::Bool(truth)) => truths.push(*truth)?,
-        _ => return Ok(false),
+        RowRef::Null => {
+            truths.push_null(false)?;
+            Ok(true)
+        }
+        RowRef::Bool(truth) => {
+            truths.push(*truth)?;
+            Ok(true)
+        },
+        _ => Ok(false),
     }
-    Ok(true)
 }
 
 #[tactic(auto, using(crate::proofs::Rows::push_rows))]
-fn offer_int(numbers: &mut Slots<i64>, row: &Row) -> Result<bool, AllocError>
-    ensures ok { IfOk result (λ taken. Offered taken (int_rows numbers.old) (int_rows numbers.new) row.now) }
+fn offer_int(numbers: &mut Slots<i64>, row: &RowRef<'_>) -> Result<bool, AllocError>
+    ensures ok { IfOk result (λ taken. Offered taken (int_rows numbers.old) (int_rows numbers.new) (row_of_ref row.now)) }
     ensures err { OnErr result (numbers.new ≡ numbers.old) }
 {
     match row {
-        None => {
+        RowRef::Null => {
             numbers.push_null(0)?;
             Ok(true)
         }
-        Some(Value::Int(number)) => offer_short(numbers, *number),
+        RowRef::Int(number) => offer_short(numbers, *number),
         _ => Ok(false),
     }
 }
@@ -71,16 +77,16 @@ fn offer_short(numbers: &mut Slots<i64>, number: i128) -> Result<bool, AllocErro
 }
 
 #[tactic(auto, using(crate::proofs::Rows::push_rows))]
-fn offer_long(numbers: &mut Slots<u64>, row: &Row) -> Result<bool, AllocError>
-    ensures ok { IfOk result (λ taken. Offered taken (long_rows numbers.old) (long_rows numbers.new) row.now) }
+fn offer_long(numbers: &mut Slots<u64>, row: &RowRef<'_>) -> Result<bool, AllocError>
+    ensures ok { IfOk result (λ taken. Offered taken (long_rows numbers.old) (long_rows numbers.new) (row_of_ref row.now)) }
     ensures err { OnErr result (numbers.new ≡ numbers.old) }
 {
     match row {
-        None => {
+        RowRef::Null => {
             numbers.push_null(0)?;
             Ok(true)
         }
-        Some(Value::Int(number)) => offer_unsigned(numbers, *number),
+        RowRef::Int(number) => offer_unsigned(numbers, *number),
         _ => Ok(false),
     }
 }
@@ -100,97 +106,55 @@ fn offer_unsigned(numbers: &mut Slots<u64>, number: i128) -> Result<bool, AllocE
 }
 
 #[tactic(auto, using(crate::proofs::Rows::push_rows))]
-fn offer_decimal(unscaled: &mut Slots<i128>, row: &Row) -> Result<bool, AllocError>
-    ensures ok { IfOk result (λ taken. Offered taken (decimal_rows unscaled.old) (decimal_rows unscaled.new) row.now) }
+fn offer_decimal(unscaled: &mut Slots<i128>, row: &RowRef<'_>) -> Result<bool, AllocError>
+    ensures ok { IfOk result (λ taken. Offered taken (decimal_rows unscaled.old) (decimal_rows unscaled.new) (row_of_ref row.now)) }
     ensures err { OnErr result (unscaled.new ≡ unscaled.old) }
 {
     match row {
-        None => {
+        RowRef::Null => {
             unscaled.push_null(0)?;
             Ok(true)
         }
-        Some(Value::Decimal(number)) => {
+        RowRef::Decimal(number) => {
             unscaled.push(*number)?;
             Ok(true)
-        }
+        },
         _ => Ok(false),
     }
 }
 
 #[tactic(auto, using(crate::proofs::Rows::push_rows))]
-fn offer_text(texts: &mut Texts, row: &Row) -> Result<bool, AllocError>
-    ensures ok { IfOk result (λ taken. Offered taken (text_rows texts.old) (text_rows texts.new) row.now) }
+fn offer_text(texts: &mut Texts, row: &RowRef<'_>) -> Result<bool, AllocError>
+    ensures ok { IfOk result (λ taken. Offered taken (text_rows texts.old) (text_rows texts.new) (row_of_ref row.now)) }
     ensures err { OnErr result (texts.new ≡ texts.old) }
 {
     match row {
-        None => {
+        RowRef::Null => {
             texts.push_null()?;
             Ok(true)
         }
-        Some(Value::Utf8(text)) => {
-            texts.push(text.as_str())?;
+        RowRef::Utf8(text) => {
+            texts.push(text)?;
             Ok(true)
-        }
+        },
         _ => Ok(false),
     }
 }
 
 #[tactic(auto, using(crate::proofs::Rows::push_rows))]
-fn offer_binary(binaries: &mut Binaries, row: &Row) -> Result<bool, AllocError>
-    ensures ok { IfOk result (λ taken. Offered taken (binary_rows binaries.old) (binary_rows binaries.new) row.now) }
+fn offer_binary(binaries: &mut Binaries, row: &RowRef<'_>) -> Result<bool, AllocError>
+    ensures ok { IfOk result (λ taken. Offered taken (binary_rows binaries.old) (binary_rows binaries.new) (row_of_ref row.now)) }
     ensures err { OnErr result (binaries.new ≡ binaries.old) }
 {
     match row {
-        None => {
+        RowRef::Null => {
             binaries.push_null()?;
             Ok(true)
         }
-        Some(Value::Binary(bytes)) => {
-            binaries.push(bytes.as_slice())?;
-            Ok(true)
-        }
-        _ => Ok(false),
-    }
-}
-
-/// Puts the number at the end where numbers are packed that it is one of, and says whether it did.
-pub(crate) fn offer_number(store: &mut Store, number: i128) -> Result<bool, AllocError>
-    ensures ok { IfOk result (λ taken. Offered taken (rows_of store.old) (rows_of store.new) (Some (IntValue number))) }
-    ensures err { OnErr result (rows_of store.new ≡ rows_of store.old) }
-{
-    match store {
-        Store::Ints(numbers) => offer_short(numbers, number),
-        Store::Longs(numbers) => offer_unsigned(numbers, number),
-        _ => Ok(false),
-    }
-}
-
-/// Puts a copy of the text at the end where texts are packed, and says whether it did.
-#[tactic(auto, using(crate::proofs::Rows::push_rows))]
-pub(crate) fn offer_str(store: &mut Store, text: &str) -> Result<bool, AllocError>
-    ensures ok { IfOk result (λ taken. Offered taken (rows_of store.old) (rows_of store.new) (Some (Utf8Value text.now))) }
-    ensures err { OnErr result (rows_of store.new ≡ rows_of store.old) }
-{
-    match store {
-        Store::Texts(texts) => {
-            texts.push(text)?;
-            Ok(true)
-        }
-        _ => Ok(false),
-    }
-}
-
-/// Puts a copy of the bytes at the end where byte strings are packed, and says whether it did.
-#[tactic(auto, using(crate::proofs::Rows::push_rows))]
-pub(crate) fn offer_bytes(store: &mut Store, bytes: &[u8]) -> Result<bool, AllocError>
-    ensures ok { IfOk result (λ taken. Offered taken (rows_of store.old) (rows_of store.new) (Some (BinaryValue bytes.now))) }
-    ensures err { OnErr result (rows_of store.new ≡ rows_of store.old) }
-{
-    match store {
-        Store::Binaries(binaries) => {
+        RowRef::Binary(bytes) => {
             binaries.push(bytes)?;
             Ok(true)
-        }
+        },
         _ => Ok(false),
     }
 }

@@ -1,8 +1,9 @@
 //! Rows that are lent.
-ghost use Rattle.std.specs.Prelude.{◌≡◌, Some, IfOk, IsOk, IsOkUnless, IsFalse};
+ghost use Rattle.std.specs.Prelude.{◌≡◌, Some, is_some, IfOk, IsOk, IsOkUnless, IsFalse};
 ghost use Rattle.vx_rows.specs.Order.{row_cmp};
 ghost use Rattle.vx_rows.specs.Sizes.{row_takes_memory};
 ghost use Rattle.vx_rows.specs.declared.value.Value.{Utf8 as Utf8Value, Binary as BinaryValue};
+ghost use Rattle.vx_buffers.specs.Numbers.{row_int};
 ghost use Rattle.vx_buffers.specs.Refs.{row_of_ref};
 
 use std::alloc::Global;
@@ -45,6 +46,24 @@ impl<'a> RowRef<'a> {
             Some(value) => RowRef::Value(value),
         }
     }
+    /// Whether the row is a value.
+    pub fn is_valid(&self) -> bool
+        ensures { result ≡ is_some (row_of_ref self.now) }
+    {
+        !matches!(self, RowRef::Null)
+    }
+
+    /// The number of the row, where it is an integer.
+    pub fn int(&self) -> Option<i128>
+        ensures { result ≡ row_int (row_of_ref self.now) }
+    {
+        match self {
+            RowRef::Int(number) => Some(*number),
+            RowRef::Value(value) => number_of(value),
+            _ => None,
+        }
+    }
+
     /// A copy of the row. Nulls, booleans, integers and decimals take no memory.
     pub fn to_row(&self, alloc: Global) -> Res<Row>
         ensures ok { IfOk result (λ r. r ≡ row_of_ref self.now) }
@@ -75,6 +94,15 @@ impl<'a> RowRef<'a> {
             RowRef::Binary(bytes) => binary_cmp(bytes, elem),
             RowRef::Value(value) => any_cmp(value, elem),
         }
+    }
+}
+
+fn number_of(value: &Value) -> Option<i128>
+    ensures { result ≡ row_int (Some value.now) }
+{
+    match value {
+        Value::Int(number) => Some(*number),
+        _ => None,
     }
 }
 

@@ -2,12 +2,10 @@
 ghost use Rattle.std.specs.Prelude.{◌≡◌, pos};
 ghost use Rattle.std.specs.Option.{option_map, option_copied};
 ghost use Rattle.vx_rows.specs.declared.value.Value.{Bool as BoolValue, Int as IntValue, Decimal as DecimalValue, Utf8 as Utf8Value, Binary as BinaryValue};
-ghost use Rattle.vx_buffers.specs.Numbers.{row_int};
 ghost use Rattle.vx_buffers.specs.Refs.{row_of_ref};
 ghost use Rattle.vx_buffers.specs.Stores.{long_value};
 
 use crate::row_ref::RowRef;
-use vx_rows::{Row, Value};
 
 pub(crate) fn bool_ref<'a>(truth: Option<bool>) -> RowRef<'a>
     ensures { row_of_ref result ≡ option_map BoolValue truth }
@@ -80,15 +78,5 @@ pub(crate) fn wide_long(number: Option<u64>) -> Option<i128>
     match number {
         None => None,
         Some(number) => Some(number as i128),
-    }
-}
-
-/// The number that any row is, where it is an integer.
-pub(crate) fn number_of(row: &Row) -> Option<i128>
-    ensures { result ≡ row_int row.now }
-{
-    match row {
-        Some(Value::Int(number)) => Some(*number),
-        _ => None,
     }
 }

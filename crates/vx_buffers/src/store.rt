@@ -1,22 +1,15 @@
 //! Where the rows of a buffer stand.
-ghost use Rattle.std.specs.Prelude.{◌≡◌, ◌<◌, ◌≤◌, [], length, take, reverse, get_or, Some, None, is_some, IfOk, OnOk, OnErr, IsOk, IsOkUnless, IsFalse};
+ghost use Rattle.std.specs.Prelude.{◌≡◌, ◌<◌, ◌≤◌, [], length, take, reverse, get_or, None, IfOk, OnOk, OnErr, IsOkUnless};
 ghost use Rattle.std.specs.List.{slice_range};
-ghost use Rattle.vx_rows.specs.Order.{row_cmp};
-ghost use Rattle.vx_rows.specs.Sizes.{row_takes_memory};
-ghost use Rattle.vx_rows.specs.declared.value.Value.{Int as IntValue};
-ghost use Rattle.vx_buffers.specs.Numbers.{row_int};
 ghost use Rattle.vx_buffers.specs.Refs.{row_of_ref};
 ghost use Rattle.vx_buffers.specs.Stores.{rows_of};
 
 use crate::binaries::Binaries;
 use crate::row_ref::RowRef;
-use crate::single::{
-    binary_ref, bool_ref, decimal_ref, int_ref, long_ref, number_of, text_ref, wide_int, wide_long,
-};
+use crate::single::{binary_ref, bool_ref, decimal_ref, int_ref, long_ref, text_ref};
 use crate::slots::Slots;
 use crate::texts::Texts;
 use std::alloc::{AllocError, Global};
-use std::cmp::Ordering;
 use std::ops::Range;
 use vx_rows::{ColumnError, DType, PType, Res, Row, Seq};
 
@@ -93,58 +86,6 @@ impl Store {
         }
     }
 
-    /// A copy of row `i`.
-    pub(crate) fn row(&self, alloc: Global, i: usize) -> Res<Row>
-        requires { i < length (rows_of self.now) }
-        ensures ok { IfOk result (λ r. r ≡ get_or (rows_of self.now) i None) }
-        ensures err { IsOkUnless result ColumnError.OutOfMemory }
-        ensures free { IsFalse (row_takes_memory (get_or (rows_of self.now) i None)) → IsOk result }
-    {
-        self.get(i).to_row(alloc)
-    }
-
-    /// The number of row `i`, where it is an integer.
-    #[tactic(auto, using(crate::proofs::Rows::length_rows, crate::proofs::Rows::bool_at, crate::proofs::Rows::int_at, crate::proofs::Rows::long_at, crate::proofs::Rows::decimal_at, crate::proofs::Rows::text_at, crate::proofs::Rows::binary_at))]
-    pub(crate) fn int(&self, i: usize) -> Option<i128>
-        requires { i < length (rows_of self.now) }
-        ensures { result ≡ row_int (get_or (rows_of self.now) i None) }
-    {
-        match self {
-            Store::Bools(_truths) => None,
-            Store::Ints(numbers) => wide_int(numbers.get(i)),
-            Store::Longs(numbers) => wide_long(numbers.get(i)),
-            Store::Decimals(_unscaled) => None,
-            Store::Texts(_texts) => None,
-            Store::Binaries(_binaries) => None,
-            Store::Rows(rows) => number_of(&rows.as_slice()[i]),
-        }
-    }
-
-    /// Whether row `i` is a value.
-    #[tactic(auto, using(crate::proofs::Rows::length_rows, crate::proofs::Rows::valid_rows))]
-    pub(crate) fn is_valid(&self, i: usize) -> bool
-        requires { i < length (rows_of self.now) }
-        ensures { result ≡ is_some (get_or (rows_of self.now) i None) }
-    {
-        match self {
-            Store::Bools(truths) => truths.get(i).is_some(),
-            Store::Ints(numbers) => numbers.get(i).is_some(),
-            Store::Longs(numbers) => numbers.get(i).is_some(),
-            Store::Decimals(unscaled) => unscaled.get(i).is_some(),
-            Store::Texts(texts) => texts.is_valid(i),
-            Store::Binaries(binaries) => binaries.is_valid(i),
-            Store::Rows(rows) => rows.as_slice()[i].is_some(),
-        }
-    }
-
-    /// How row `i` stands to `elem`.
-    pub(crate) fn cmp(&self, i: usize, elem: &Row) -> Ordering
-        requires { i < length (rows_of self.now) }
-        ensures { result ≡ row_cmp (get_or (rows_of self.now) i None) elem.now }
-    {
-        self.get(i).cmp(elem)
-    }
-
     /// Copies of the rows of the range.
     #[tactic(auto, using(crate::proofs::Rows::range_more))]
     pub(crate) fn copies(&self, alloc: Global, range: Range<usize>) -> Res<Seq<Row>>
@@ -155,7 +96,7 @@ impl Store {
     {
         let mut copies = Seq::new(alloc);
         for i in range.start..range.end {
-            copies.push(self.row(alloc, i)?)?;
+            copies.push(self.get(i).to_row(alloc)?)?;
         }
         Ok(copies)
     }
@@ -167,7 +108,7 @@ impl Store {
     {
         let mut rows = Vec::new(alloc);
         for i in 0..self.len() {
-            rows.push(self.row(alloc, i)?)?;
+            rows.push(self.get(i).to_row(alloc)?)?;
         }
         Ok(rows)
     }

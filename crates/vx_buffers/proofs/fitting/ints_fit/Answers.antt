@@ -1,9 +1,8 @@
-use Rattle.std.proofs.Common.{◌∙◌, sym, ap, ℤ, pos, Bool, arith}
-use Rattle.vx_rows.specs.declared.value.Value.{Bool as BoolValue, Int, Decimal}
+use Rattle.std.proofs.Common.{◌∙◌, sym, ap, arith}
+use Rattle.vx_rows.specs.declared.value.Value.{Int}
 use Rattle.vx_rows.specs.Fits.{is_nullable}
-use Rattle.vx_buffers.specs.Fits.{is_within, is_below}
-use Rattle.vx_buffers.specs.Stores.{long_value}
-use Rattle.vx_buffers.proofs.Fits.{int_fits, long_fits, decimal_fits, null_or_map, misfit_at, fit_at}
+use Rattle.vx_buffers.specs.Fits.{is_within}
+use Rattle.vx_buffers.proofs.Fits.{int_fits, misfit_at, fit_at}
 use Rattle.vx_buffers.proofs.fitting.ints_fit.Goals as goal
 
 pub returns-then-not-number_fits : goal.returns-then-not-number_fits

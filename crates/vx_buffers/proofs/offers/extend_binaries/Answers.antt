@@ -1,8 +1,8 @@
 use Rattle.std.proofs.Common.{◌∙◌, ◌++◌, sym, ap}
 use Rattle.std.specs.List.{slice_range}
-use Rattle.vx_rows.specs.declared.value.Value.{Bool as BoolValue, Int, Decimal, Utf8, Binary}
+use Rattle.vx_rows.specs.declared.value.Value.{Binary}
 use Rattle.vx_buffers.specs.declared.store.Store.{Store}
-use Rattle.vx_buffers.specs.Stores.{rows_of, binary_rows, long_value}
+use Rattle.vx_buffers.specs.Stores.{rows_of, binary_rows}
 use Rattle.vx_buffers.proofs.Rows.{extend_rows}
 use Rattle.vx_buffers.proofs.offers.extend_binaries.Goals as goal
 

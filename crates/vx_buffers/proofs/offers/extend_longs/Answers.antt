@@ -1,6 +1,5 @@
 use Rattle.std.proofs.Common.{◌∙◌, ◌++◌, sym, ap}
 use Rattle.std.specs.List.{slice_range}
-use Rattle.vx_rows.specs.declared.value.Value.{Bool as BoolValue, Int, Decimal}
 use Rattle.vx_buffers.specs.declared.store.Store.{Store}
 use Rattle.vx_buffers.specs.Stores.{rows_of, long_rows, long_value}
 use Rattle.vx_buffers.proofs.Rows.{extend_rows}

@@ -1,4 +1,4 @@
-use Rattle.std.proofs.Common.{◌∙◌, sym, ap, take, reverse}
+use Rattle.std.proofs.Common.{◌∙◌, sym, ap, take}
 use Rattle.vx_rows.specs.declared.value.Value.{Bool as BoolValue, Int, Decimal, Utf8, Binary}
 use Rattle.vx_buffers.specs.declared.store.Store.{Store}
 use Rattle.vx_buffers.specs.Stores.{rows_of, bool_rows, int_rows, long_rows, decimal_rows, text_rows, binary_rows, long_value}
