@@ -56,13 +56,13 @@ binary_layer : (s : List ℕ) (y : DType-F DType Fields) → layer_fits (λ f s.
 binary_layer s (DType-F.Binary n) = refl
 binary_layer s y = refl
 
-text_fits : (t : DType) (s : List ℕ) → value_fits (Utf8 s) t ≡ is_text t
+pub text_fits : (t : DType) (s : List ℕ) → value_fits (Utf8 s) t ≡ is_text t
 text_fits t s = ap (λ v. value_fits v t) (sym (rolls-Utf8 s)) ∙ by_layer (Value-F.Utf8 s) t ∙ text_layer s (out-DType t)
 
-binary_fits : (t : DType) (s : List ℕ) → value_fits (Binary s) t ≡ is_binary t
+pub binary_fits : (t : DType) (s : List ℕ) → value_fits (Binary s) t ≡ is_binary t
 binary_fits t s = ap (λ v. value_fits v t) (sym (rolls-Binary s)) ∙ by_layer (Value-F.Binary s) t ∙ binary_layer s (out-DType t)
 
-bool_fits : (t : DType) (b : Bool) → value_fits (BoolValue b) t ≡ is_bool t
+pub bool_fits : (t : DType) (b : Bool) → value_fits (BoolValue b) t ≡ is_bool t
 bool_fits t b = ap (λ v. value_fits v t) (sym (rolls-Bool b)) ∙ by_layer (Value-F.Bool b) t ∙ bool_layer b (out-DType t)
 
 pub int_fits : (t : DType) (z : ℤ) → value_fits (Int z) t ≡ is_within (number_range t) z

@@ -1,5 +1,5 @@
 //! Packed lists of byte strings and nulls.
-ghost use Rattle.std.specs.Prelude.{◌≡◌, ◌<◌, ◌≤◌, [], ◌∷◌, ◌++◌, length, reverse, take, get_or, Some, None, is_some, option_copied, OnOk, OnErr};
+ghost use Rattle.std.specs.Prelude.{◌≡◌, ◌<◌, ◌≤◌, [], ◌∷◌, ◌++◌, length, reverse, take, get_or, Some, None, is_some, option_copied, IfOk, OnOk, OnErr};
 ghost use Rattle.std.specs.List.{slice_range};
 
 use crate::slots::Slots;
@@ -48,6 +48,17 @@ impl Binaries {
             bytes: Vec::new(alloc),
             spans: Slots::new(alloc),
         }
+    }
+
+    /// No elements, and room for so many beside their bytes.
+    pub fn with_capacity(alloc: Global, count: usize) -> Result<Binaries, AllocError>
+        ensures { IfOk result (λ b. b ≡ []) }
+    {
+        let spans = Slots::with_capacity(alloc, count)?;
+        Ok(Binaries {
+            bytes: Vec::new(alloc),
+            spans,
+        })
     }
 
     /// The number of elements.

@@ -8,12 +8,16 @@ ghost use Rattle.vx_rows.specs.declared.value.Value.{Value as AnyValue, Bool as 
 ghost use Rattle.vx_buffers.specs.Numbers.{row_int};
 ghost use Rattle.vx_buffers.specs.Refs.{row_of_ref};
 ghost use Rattle.vx_buffers.specs.Rows.{RowList};
+ghost use Rattle.vx_buffers.specs.Stores.{bool_rows, int_rows, long_rows, decimal_rows, text_rows, binary_rows};
 
+use crate::binaries::Binaries;
 use crate::fitting::store_fits;
 use crate::moves::move_last;
 use crate::offers::{offer, offer_range};
 use crate::row_ref::RowRef;
+use crate::slots::Slots;
 use crate::store::Store;
+use crate::texts::Texts;
 use std::alloc::Global;
 use std::cmp::Ordering;
 use std::marker::Model;
@@ -66,6 +70,60 @@ impl RowBuffer {
                 },
             ),
             _ => packed(alloc, dtype, rows.as_slice()),
+        }
+    }
+
+    /// Booleans as rows. This and the five below move the list, and look at none of its elements.
+    pub fn from_bools(truths: Slots<bool>) -> RowBuffer
+        ensures { result ≡ bool_rows truths }
+    {
+        RowBuffer {
+            store: Store::Bools(truths),
+        }
+    }
+
+    /// Integers of a type other than `u64` as rows.
+    pub fn from_ints(numbers: Slots<i64>) -> RowBuffer
+        ensures { result ≡ int_rows numbers }
+    {
+        RowBuffer {
+            store: Store::Ints(numbers),
+        }
+    }
+
+    /// Integers of type `u64` as rows.
+    pub fn from_longs(numbers: Slots<u64>) -> RowBuffer
+        ensures { result ≡ long_rows numbers }
+    {
+        RowBuffer {
+            store: Store::Longs(numbers),
+        }
+    }
+
+    /// The unscaled numbers of decimals as rows.
+    pub fn from_decimals(unscaled: Slots<i128>) -> RowBuffer
+        ensures { result ≡ decimal_rows unscaled }
+    {
+        RowBuffer {
+            store: Store::Decimals(unscaled),
+        }
+    }
+
+    /// Texts as rows.
+    pub fn from_texts(texts: Texts) -> RowBuffer
+        ensures { result ≡ text_rows texts }
+    {
+        RowBuffer {
+            store: Store::Texts(texts),
+        }
+    }
+
+    /// Byte strings as rows.
+    pub fn from_binaries(binaries: Binaries) -> RowBuffer
+        ensures { result ≡ binary_rows binaries }
+    {
+        RowBuffer {
+            store: Store::Binaries(binaries),
         }
     }
 
@@ -238,7 +296,8 @@ impl RowBuffer {
         self.push_ref(alloc, RowRef::Binary(bytes))
     }
 
-    /// Appends a range of the other rows, at once where both pack the same kind. A refusal leaves the rows as they were.
+    /// Appends a range of the other rows: booleans, integers and decimals at once where both pack the same kind, and else one after
+    /// the other. A refusal leaves the rows as they were.
     pub fn extend_from(&mut self, alloc: Global, other: &RowBuffer, range: Range<usize>) -> Res<()>
         requires order { range.start ≤ range.end }
         requires inside { range.end ≤ length other.now }

@@ -1,5 +1,5 @@
 //! Packed lists of values and nulls.
-ghost use Rattle.std.specs.Prelude.{◌≡◌, ◌<◌, ◌≤◌, [], ◌∷◌, ◌++◌, length, reverse, take, get_or, Some, None, true, OnOk, OnErr};
+ghost use Rattle.std.specs.Prelude.{◌≡◌, ◌<◌, ◌≤◌, [], ◌∷◌, ◌++◌, length, reverse, take, get_or, Some, None, true, IfOk, OnOk, OnErr};
 ghost use Rattle.std.specs.List.{slice_range};
 
 use std::alloc::{AllocError, Global};
@@ -40,6 +40,17 @@ impl<T> Slots<T> {
             items: Vec::new(alloc),
             marks: Vec::new(alloc),
         }
+    }
+
+    /// No elements, and room for so many values.
+    pub fn with_capacity(alloc: Global, count: usize) -> Result<Slots<T>, AllocError>
+        ensures { IfOk result (λ s. s ≡ []) }
+    {
+        let items = Vec::with_capacity(alloc, count)?;
+        Ok(Slots {
+            items,
+            marks: Vec::new(alloc),
+        })
     }
 
     /// The number of elements.

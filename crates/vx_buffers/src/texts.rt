@@ -1,5 +1,5 @@
 //! Packed lists of texts and nulls.
-ghost use Rattle.std.specs.Prelude.{◌≡◌, ◌<◌, ◌≤◌, [], ◌∷◌, ◌++◌, length, reverse, take, get_or, Some, None, is_some, option_map, OnOk, OnErr};
+ghost use Rattle.std.specs.Prelude.{◌≡◌, ◌<◌, ◌≤◌, [], ◌∷◌, ◌++◌, length, reverse, take, get_or, Some, None, is_some, option_map, IfOk, OnOk, OnErr};
 ghost use Rattle.std.specs.List.{slice_range};
 
 use crate::binaries::Binaries;
@@ -38,6 +38,14 @@ impl Texts {
         Texts {
             pieces: Binaries::new(alloc),
         }
+    }
+
+    /// No elements, and room for so many beside their bytes.
+    pub fn with_capacity(alloc: Global, count: usize) -> Result<Texts, AllocError>
+        ensures { IfOk result (λ t. t ≡ []) }
+    {
+        let pieces = Binaries::with_capacity(alloc, count)?;
+        Ok(Texts { pieces })
     }
 
     /// The number of elements.

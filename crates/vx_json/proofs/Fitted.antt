@@ -1,23 +1,16 @@
 -- Rows that are read and tested one by one are those that are read, and then tested together.
-use Rattle.std.proofs.Common.{◌≡◌, List, [], ◌∷◌, Bool, true, false, cond, Option, Some, None, option_map, refl, sym, ap, subst, ◌∙◌}
-use Rattle.std.specs.Prelude.{if◌then◌else◌, ◌&&◌, IsTrue, is_some, ℤ, Result, ⊤}
+use Rattle.std.proofs.Common.{◌≡◌, List, ◌∷◌, Bool, true, false, Option, Some, None, option_map, refl, sym, ap, ◌∙◌}
+use Rattle.std.specs.Prelude.{if◌then◌else◌, ◌&&◌, IsTrue}
 use Rattle.serde_json.specs.Data.{Data, null, boolean, number, string, array, object, Items, no_items, item}
-use Rattle.serde_json.specs.Find.{as_array, as_null}
-use Rattle.vx_rows.specs.Fits.{row_fits, rows_fit, value_fits, is_in_range}
-use Rattle.vx_buffers.proofs.Fits.{int_fits}
-use Rattle.vx_buffers.specs.Fits.{is_within, layer_range}
-use Rattle.vx_rows.specs.declared.dtype.DType.{DType, Primitive, out-DType, out-roll-DType}
-use Rattle.vx_rows.specs.declared.dtype.DType.TheVariants as Types
-use Rattle.vx_rows.specs.declared.dtype.DType.TheOpen.{DType-F}
-use Rattle.vx_rows.specs.declared.value.Value.{Value, Int}
-use Rattle.vx_base.specs.Column.{Flat, flat}
-use Rattle.vx_json.specs.Forms.{◌>>=◌, Fails, all_items, list_of, integer_of}
+use Rattle.vx_rows.specs.Fits.{row_fits, rows_fit}
+use Rattle.vx_rows.specs.declared.dtype.DType.{DType}
+use Rattle.vx_rows.specs.declared.value.Value.{Value}
+use Rattle.vx_base.specs.Column.{flat}
+use Rattle.vx_json.specs.Forms.{◌>>=◌, Fails, all_items, list_of}
 use Rattle.vx_json.specs.declared.forms.Unread.{Unread}
-use Rattle.vx_rows.specs.declared.kinds.Nullability.{Nullability}
-use Rattle.vx_rows.specs.declared.kinds.PType.{PType}
 use Rattle.vx_json.specs.declared.forms.Unread.TheVariants.{NoForm, OutOfMemory}
 use Rattle.vx_json.specs.Parts.{fitted, fitted_rows}
-use Rattle.vx_json.specs.Rows.{layer_value, row_of, fitted_row, fitting_row, fitting_integer, integer_row, Pushes}
+use Rattle.vx_json.specs.Rows.{row_of, fitting_row}
 
 -- rows, where a test allows them
 kept : Bool → List (Option Value) → Option (List (Option Value))
@@ -114,37 +107,3 @@ all_kept t (Some rs) rows is = fits_kept t (rows_fit t rs) rs rows refl is
 pub rows_that_fit : (t : DType) (d : Data) (rows : List (Option Value))
     → list_of (fitting_row t) d ≡ Some rows → IsTrue (rows_fit t rows)
 rows_that_fit t d rows is = all_kept t (list_of (row_of t) d) rows (sym (list_fitted t d) ∙ is)
-
-same_kept : (b : Bool) (z : ℤ) → ((if b then Some z else None) >>= λ y. Some (Some (Int y)))
-    ≡ (if b then Some (Some (Int z)) else None)
-same_kept true z = refl
-same_kept false z = refl
-
--- an integer fits a type of integers where it is in its range
-in_range : (t : DType) (p : PType) (n : Nullability) (z : ℤ) → out-DType t ≡ DType-F.Primitive p n
-    → is_in_range p z ≡ value_fits (Int z) t
-in_range t p n z is = sym (int_fits t z ∙ ap (λ y. is_within (layer_range y) z) is)
-
-integer_found : (t : DType) (p : PType) (n : Nullability) (o : Option ℤ) → out-DType t ≡ DType-F.Primitive p n
-    → ((o >>= λ z. if is_in_range p z then Some z else None) >>= λ y. Some (Some (Int y)))
-    ≡ (((o >>= λ z. Some (Int z)) >>= λ v. Some (Some v)) >>= fitted_row t)
-integer_found t p n None is = refl
-integer_found t p n (Some z) is = same_kept (is_in_range p z) z
-    ∙ ap (λ (b : Bool). if b then Some (Some (Int z)) else None) (in_range t p n z is)
-
-integer_read : (t : DType) (p : PType) (n : Nullability) (d : Data) → out-DType t ≡ DType-F.Primitive p n
-    → is_some (as_null d) ≡ false → integer_row p d ≡ fitting_row t d
-integer_read t p n d is h = rw h (integer_found t p n (integer_of d) is
-    ∙ ap (λ y. (layer_value y d >>= λ v. Some (Some v)) >>= fitted_row t) (sym is))
-
-opened : (t : DType) (p : PType) (n : Nullability) → t ≡ Primitive p n → out-DType t ≡ DType-F.Primitive p n
-opened t p n is = ap out-DType is ∙ ap out-DType (sym (Types.rolls-Primitive p n))
-    ∙ out-roll-DType (DType-F.Primitive p n)
-
--- an integer that is no null is a row
-pub integer_pushed : (t : DType) (p : PType) (n : Nullability) (d : Data) (pushed : Result ⊤ Unread)
-    (old new : List (Option Value))
-    → t ≡ Primitive p n → is_some (as_null d) ≡ false → Pushes pushed (integer_row p d) old new
-    → Pushes pushed (fitting_row t d) old new
-integer_pushed t p n d pushed old new is h done =
-    subst (λ (reading : Option (Option Value)). Pushes pushed reading old new) (integer_read t p n d (opened t p n is) h) done

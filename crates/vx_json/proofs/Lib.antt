@@ -3,3 +3,4 @@ pub mod Members
 pub mod Numerals
 pub mod Jobs
 pub mod Fitted
+pub mod Alike

@@ -5,4 +5,5 @@ pub mod Rows
 pub mod Parts
 pub mod Steps
 pub mod Job
+pub mod Packed
 pub mod Bytes

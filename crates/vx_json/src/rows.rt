@@ -5,17 +5,19 @@ ghost use Rattle.serde_json.specs.View.{view};
 ghost use Rattle.vx_json.specs.Forms.{Gives, list_of};
 ghost use Rattle.vx_json.specs.Rows as spec;
 ghost use Rattle.vx_json.specs.Rows.{Pushes};
-ghost use Rattle.vx_json.specs.Forms.{integer_of as integer_spec};
-ghost use Rattle.vx_rows.specs.Fits.{is_in_range as is_in_range_spec};
+ghost use Rattle.vx_rows.specs.Fits.{is_nullable};
 
 use crate::forms::{Unread, array_of, bool_of, integer_of, text_of};
+use crate::integers::integers_of;
+use crate::packed::{RowKind, texts_of, truths_of};
 use crate::reason::{Reason, Trail};
 use crate::texts::{bytes_of, unscaled_of};
+use crate::written::{binaries_of, decimals_of};
 use serde_json::Value as Json;
 use std::alloc::Global;
 use vx_buffers::RowBuffer;
 use vx_rows::fits::row_fits;
-use vx_rows::{DType, PType, Row, Text, Value};
+use vx_rows::{DType, Nullability, PType, Row, Text, Value};
 
 /// A copy of a text.
 fn utf8_of(alloc: Global, value: &Json, trail: &Trail<'_>) -> Result<Text, Unread>
@@ -125,50 +127,6 @@ fn fitting_row(alloc: Global, dtype: &DType, value: &Json, trail: &Trail<'_>) ->
     Ok(row)
 }
 
-/// The whole number that a value is.
-fn integer_in(value: &Json) -> Option<i128>
-    ensures { result ≡ integer_spec (view value.now) }
-{
-    match value {
-        Json::Number(number) => number.as_i128(),
-        _ => None,
-    }
-}
-
-/// Whether the number is in the type's range.
-fn is_in_range(ptype: PType, integer: i128) -> bool
-    ensures { result ≡ is_in_range_spec ptype integer }
-{
-    ptype.min() <= integer && integer <= ptype.max()
-}
-
-/// A whole number in the range of its type.
-fn fitting_integer(ptype: PType, value: &Json, trail: &Trail<'_>) -> Result<i128, Unread>
-    ensures { Gives (λ z. z) result (spec.fitting_integer ptype (view value.now)) }
-{
-    match integer_in(value) {
-        Some(integer) if is_in_range(ptype, integer) => Ok(integer),
-        _ => Err(Unread::NoForm(trail.is_no(value, ptype_name(ptype)))),
-    }
-}
-
-/// Puts an integer in the range of its type at the end of the rows.
-fn push_integer(
-    alloc: Global,
-    ptype: PType,
-    value: &Json,
-    trail: &Trail<'_>,
-    rows: &mut RowBuffer,
-) -> Result<(), Unread>
-    ensures { Pushes result (spec.integer_row ptype (view value.now)) rows.old rows.new }
-{
-    let integer = fitting_integer(ptype, value, trail)?;
-    match rows.push_int(alloc, integer) {
-        Ok(()) => Ok(()),
-        Err(_) => Err(Unread::OutOfMemory),
-    }
-}
-
 /// Puts a row that fits its type at the end of the rows.
 fn push_fitting(
     alloc: Global,
@@ -186,21 +144,32 @@ fn push_fitting(
     }
 }
 
-/// The same, where an integer is no row on its way.
-fn push_row(
+/// A list of rows of a type, each of which fits it, row by row.
+fn each_row(
     alloc: Global,
     dtype: &DType,
     value: &Json,
     trail: &Trail<'_>,
-    rows: &mut RowBuffer,
-) -> Result<(), Unread>
-    ensures { Pushes result (spec.fitting_row dtype.now (view value.now)) rows.old rows.new }
+) -> Result<RowBuffer, Unread>
+    ensures { Gives (λ rs. rs) result (list_of (spec.fitting_row dtype.now) (view value.now)) }
 {
-    match dtype {
-        DType::Primitive(ptype, _) if !value.is_null() => {
-            push_integer(alloc, *ptype, value, trail, rows)
-        }
-        _ => push_fitting(alloc, dtype, value, trail, rows),
+    let items = array_of(value, trail)?;
+    let mut rows = RowBuffer::new(alloc, dtype);
+    for item in items {
+        let place = Trail::Item(&*trail, rows.len());
+        push_fitting(alloc, dtype, item, &place, &mut rows)?;
+    }
+    Ok(rows)
+}
+
+/// The kind of rows of a type that is called so.
+fn kind_of(nullability: Nullability, type_name: &'static str, value_name: &'static str) -> RowKind
+    ensures { result.null_fits ≡ is_nullable nullability }
+{
+    RowKind {
+        null_fits: nullability.is_nullable(),
+        type_name,
+        value_name,
     }
 }
 
@@ -213,11 +182,19 @@ pub fn rows_of(
 ) -> Result<RowBuffer, Unread>
     ensures { Gives (λ rs. rs) result (list_of (spec.fitting_row dtype.now) (view value.now)) }
 {
-    let items = array_of(value, trail)?;
-    let mut rows = RowBuffer::new(alloc, dtype);
-    for item in items {
-        let place = Trail::Item(&*trail, rows.len());
-        push_row(alloc, dtype, item, &place, &mut rows)?;
+    match dtype {
+        DType::Bool(nulls) => truths_of(alloc, kind_of(*nulls, "bool", "boolean"), value, trail),
+        DType::Primitive(ptype, nulls) => {
+            let name = ptype_name(*ptype);
+            integers_of(alloc, *ptype, kind_of(*nulls, name, name), value, trail)
+        }
+        DType::Utf8(nulls) => texts_of(alloc, kind_of(*nulls, "utf8", "text"), value, trail),
+        DType::Decimal(digits, nulls) => {
+            decimals_of(alloc, *digits, nulls.is_nullable(), value, trail)
+        }
+        DType::Binary(nulls) => {
+            binaries_of(alloc, kind_of(*nulls, "binary", "text"), value, trail)
+        }
+        _ => each_row(alloc, dtype, value, trail),
     }
-    Ok(rows)
 }
