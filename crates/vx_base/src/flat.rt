@@ -1,5 +1,5 @@
 //! Flat columns: rows that fit a type.
-ghost use Rattle.std.specs.Prelude.{◌≡◌, ◌+◌, ◌-◌, ◌≤◌, ◌<◌, ◌++◌, nat_eq, length, replicate, get_or, IsTrue, IsFalse, IfOk, IfErr, OnOk, OnErr, IsOk, IsOkUnless, None, [], is_some, slice_index};
+ghost use Rattle.std.specs.Prelude.{◌≡◌, ◌+◌, ◌-◌, ◌≤◌, ◌<◌, ◌++◌, nat_eq, length, replicate, get_or, IsTrue, IsFalse, IfSome, IfOk, IfErr, OnOk, OnErr, IsOk, IsOkUnless, None, [], is_some, slice_index};
 ghost use Rattle.std.specs.List.{slice_range};
 ghost use Rattle.vx_rows.specs.Fits.{rows_fit, row_fits};
 ghost use Rattle.vx_rows.specs.Order.{row_cmp};
@@ -191,6 +191,16 @@ impl FlatColumn {
         })
     }
 
+    /// The row that is stored once, where the column is kept as one row several times.
+    pub fn as_constant(&self) -> Option<&Row>
+        ensures { IfSome result (λ row. self.now.rows ≡ replicate (length self.now.rows) row.now) }
+    {
+        match &self.source {
+            Source::Rows(_) => None,
+            Source::Constant(row) => Some(row.get()),
+        }
+    }
+
     /// A copy of row `i`, not counted.
     fn row(&self, alloc: Global, i: usize) -> Res<Row>
         requires { i < length self.now.rows }
@@ -354,6 +364,7 @@ impl FlatColumn {
         out.append(rows)?;
         Ok(())
     }
+
     /// Appends the rows of the range to a buffer, not counted.
     fn extend(&self, alloc: Global, range: Range<usize>, out: &mut RowBuffer) -> Res<()>
         requires order { range.start ≤ range.end }
@@ -374,8 +385,8 @@ impl FlatColumn {
         }
     }
 
-    /// Appends the rows of the range to a buffer, at once where both pack one kind. Raises the steps by the range's length;
-    /// a refusal leaves `out` as it was.
+    /// Appends the rows of the range to a buffer. Integers, booleans and decimals that both pack alike are copied at once, and
+    /// other rows one by one. Raises the steps by the range's length; a refusal leaves `out` as it was.
     pub fn append_into<L: Ledger>(
         &self,
         alloc: Global,

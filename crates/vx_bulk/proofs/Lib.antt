@@ -1,0 +1,3 @@
+pub mod Constants
+pub mod Fitting
+pub mod Picks
