@@ -2,6 +2,8 @@ pub mod Counts
 pub mod Chunks
 pub mod Insides
 pub mod Making
+pub mod Cuts
+pub mod Parts
 pub mod Searches
 pub mod Slices
 pub mod Chains

@@ -28,10 +28,10 @@ some_chunk : (offset len n : ℕ) → 0 < len → n ≡ chunks_over (offset % 10
 some_chunk offset len n h e = omega arith
 
 -- each entry is the count of the indices before its chunk
-abbrev AreCounts : ℕ → List ℕ → List ℕ → Type 0
+abbrev pub AreCounts : ℕ → List ℕ → List ℕ → Type 0
 AreCounts first indices offsets = (i : ℕ) → i < length offsets → get_or offsets i 0 ≡ count_below (1024 * (first + i)) indices
 
-are_counts : (first : ℕ) (offsets indices : List ℕ) → counts_below first offsets indices ≡ true → AreCounts first indices offsets
+pub are_counts : (first : ℕ) (offsets indices : List ℕ) → counts_below first offsets indices ≡ true → AreCounts first indices offsets
 are_counts first [] indices e i h = absurd (omega arith)
 are_counts first (n ∷ ns) indices e zero h =
     let p = and_parts (nat_eq n (count_below (1024 * first) indices)) (counts_below (first + 1) ns indices) e in
@@ -67,11 +67,11 @@ new_chunks len offset xs co short some r above below number counts =
 
 -- ---- no rule is broken
 
-not_false : (b : Bool) → not b ≡ false → b ≡ true
+pub not_false : (b : Bool) → not b ≡ false → b ≡ true
 not_false true e = refl
 not_false false e = absurd (false≢true (sym e))
 
-first_holds : (b : Bool) (rule : Rule) (o : Option Rule) → cond b (Some rule) o ≡ None → (b ≡ false) × (o ≡ None)
+pub first_holds : (b : Bool) (rule : Rule) (o : Option Rule) → cond b (Some rule) o ≡ None → (b ≡ false) × (o ≡ None)
 first_holds true rule o e = absurd (cc)
 first_holds false rule o e = (refl, e)
 
@@ -195,7 +195,7 @@ pub value_fault_of : (index : Index) (seen : Flat) (len offset : ℕ) (indices v
     first_broken (value_rules indices values) ≡ first_broken (value_rules seen values)
 value_fault_of index seen len offset indices values s made_of = sym (ap (λ (c : Flat). first_broken (value_rules c values)) (s ∙ ap (λ (n : Index). n.indices) made_of))
 
-values_number : (indices values : Flat) → first_broken (value_rules indices values) ≡ None → length values.rows ≡ length indices.rows
+pub values_number : (indices values : Flat) → first_broken (value_rules indices values) ≡ None → length values.rows ≡ length indices.rows
 unfolding first_broken
 values_number indices values e =
     let h = first_holds _ _ _ e in

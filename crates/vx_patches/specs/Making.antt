@@ -1,10 +1,10 @@
 -- The rules of exceptions, in their order.
-use Rattle.std.specs.Prelude.{ℕ, ◌+◌, ◌/◌, ◌%◌, Bool, not, nat_le, nat_eq, List, [], ◌∷◌, ◌++◌, length, Option, Some, None}
+use Rattle.std.specs.Prelude.{ℕ, ◌+◌, ◌-◌, ◌*◌, ◌/◌, ◌%◌, Bool, true, not, ◌&&◌, nat_le, nat_lt, nat_eq, min, List, [], ◌∷◌, ◌++◌, length, map, slice_index, Option, Some, None, unwrap_or}
 use Rattle.vx_rows.specs.declared.error.Rule.{Rule}
 use Rattle.vx_rows.specs.declared.error.Rule.TheVariants.{TooLong, NoExceptions, IndexType, IndexOrder, IndexBelowOffset, IndexPastEnd, ValueCount, ChunkOffsetType, ChunkOffsetCount, ChunkOffsetWrong}
 use Rattle.vx_base.specs.Column.{Flat}
 use Rattle.vx_base.specs.Numbers.{numbers_of, is_unsigned}
-use Rattle.vx_base.specs.Checks.{strictly_increasing, all_within, counts_below}
+use Rattle.vx_base.specs.Checks.{strictly_increasing, non_decreasing, all_within, counts_below}
 use Rattle.vx_base.specs.Rules.{first_broken}
 use Rattle.vx_patches.specs.Places.{Index, chunks_over}
 
@@ -80,3 +80,46 @@ patches_fault len offset indices values offsets = first_broken (index_rules len 
 -- places as they are made: no exception is cut away
 abbrev pub made : ℕ → ℕ → Flat → Option Flat → Index
 made len offset indices offsets = record { len = len; offset = offset; indices = indices; chunk_offsets = offsets; within = 0 }
+
+-- ---- chunk offsets that lost a part, as those of a slice
+
+-- what each entry says where w exceptions of the first chunk are cut away: its distance from the first entry, less w, which
+-- saturates at 0 and at the number of indices
+abbrev pub told : ℕ → ℕ → List ℕ → List ℕ
+told w m offsets = map (λ n. min (n - slice_index offsets 0 - w) m) offsets
+
+-- what every slice keeps: the entries don't fall, they say the count of the indices before each chunk, and w and the number of
+-- indices together fit 64 bits
+abbrev pub keeps_counts : ℕ → ℕ → List ℕ → List ℕ → Bool
+keeps_counts first w indices offsets =
+    nat_lt (w + length indices) 18446744073709551616 && (non_decreasing offsets && counts_below first (told w (length indices) offsets) indices)
+
+-- wrong, too, where it isn't said how many exceptions are cut away
+abbrev pub wrong_cut : ℕ → Flat → Flat → Option ℕ → Bool
+wrong_cut offset indices offsets None = true
+wrong_cut offset indices offsets (Some w) = not (keeps_counts (offset / 1024) w (numbers_of indices.rows) (numbers_of offsets.rows))
+
+-- and where it is said of no chunk offsets
+abbrev pub cut_rules : ℕ → ℕ → Flat → Option Flat → Option ℕ → List (Rule × Bool)
+cut_rules len offset indices None None = []
+cut_rules len offset indices None (Some w) = (ChunkOffsetWrong, true) ∷ []
+cut_rules len offset indices (Some offsets) within =
+    (ChunkOffsetType, wrong_type offsets) ∷ (ChunkOffsetCount, wrong_number len offset offsets) ∷ (ChunkOffsetWrong, wrong_cut offset indices offsets within) ∷ []
+
+-- the first rule that such chunk offsets break
+abbrev pub cut_fault : ℕ → ℕ → Flat → Option Flat → Option ℕ → Option Rule
+cut_fault len offset indices offsets within = first_broken (cut_rules len offset indices offsets within)
+
+-- the first rule that exceptions with such chunk offsets break
+abbrev pub cut_patches_fault : ℕ → ℕ → Flat → Flat → Option Flat → Option ℕ → Option Rule
+cut_patches_fault len offset indices values offsets within =
+    first_broken (index_rules len offset indices ++ (value_rules indices values ++ cut_rules len offset indices offsets within))
+
+-- places with such chunk offsets
+abbrev pub made_cut : ℕ → ℕ → Flat → Option Flat → Option ℕ → Index
+made_cut len offset indices offsets within = record { len = len; offset = offset; indices = indices; chunk_offsets = offsets; within = unwrap_or within 0 }
+
+-- how much is read to judge them, at most
+abbrev pub cut_reads : Option Flat → ℕ
+cut_reads None = 0
+cut_reads (Some offsets) = 3 * length offsets.rows + 1

@@ -1,10 +1,10 @@
 -- Exceptions as pairs of a row and its value.
-use Rattle.std.specs.Prelude.{ℕ, ◌-◌, ◌≡◌, ◌≤◌, ◌<◌, slice_index, cond, nat_eq, List, [], ◌∷◌, length, map, Option, Some, None, refl}
+use Rattle.std.specs.Prelude.{ℕ, ◌-◌, ◌≡◌, ◌≤◌, ◌<◌, slice_index, cond, nat_eq, List, [], ◌∷◌, length, map, Option, Some, None, Result, Ok, Err, refl}
 use Rattle.std.specs.List.{filter, zip}
 use Rattle.std.specs.Coded.{Coded, code_by, coded×}
 use Rattle.vx_rows.specs.declared.value.Value.{Value}
 use Rattle.vx_rows.specs.declared.error.ColumnError.{ColumnError}
-use Rattle.vx_rows.specs.declared.error.ColumnError.TheVariants.{NoChunkOffsets, OutOfBounds}
+use Rattle.vx_rows.specs.declared.error.ColumnError.TheVariants.{NoChunkOffsets, OutOfBounds, LengthMismatch}
 use Rattle.vx_base.specs.Column.{Flat, flat_code}
 use Rattle.vx_base.specs.Numbers.{numbers_of}
 use Rattle.vx_patches.specs.Places.{Index, IsIndex, index_code, indices_of, rows_of}
@@ -66,3 +66,8 @@ IsEntry (Some offsets) idx n = (idx < length offsets.rows) × (n ≡ slice_index
 abbrev pub EntryCause : Option Flat → ℕ → ColumnError → Type 0
 EntryCause None idx e = e ≡ NoChunkOffsets
 EntryCause (Some offsets) idx e = (e ≡ OutOfBounds idx (length offsets.rows)) × (length offsets.rows ≤ idx)
+
+-- what exceptions become by new values: the same places with these values, where there are as many
+abbrev pub mapped : Overlay → Result Flat ColumnError → Result Overlay ColumnError
+mapped o (Err e) = Err e
+mapped o (Ok values) = cond (nat_eq (length values.rows) (length (pairs_of o))) (Ok (overlay o.index values)) (Err (LengthMismatch (length (pairs_of o)) (length values.rows)))

@@ -5,7 +5,7 @@ ghost use Rattle.vx_search.specs.Places as searches;
 ghost use Rattle.vx_patches.specs.Places.{IsIndex, indices_of, rows_of, within_chunk};
 ghost use Rattle.vx_base.specs.Ranges.{ends_cut, SliceCause};
 ghost use Rattle.vx_base.specs.Rules.{Refuses};
-ghost use Rattle.vx_patches.specs.Making.{index_fault, chunk_fault, made};
+ghost use Rattle.vx_patches.specs.Making.{index_fault, chunk_fault, made, cut_fault, made_cut, cut_reads};
 ghost use Rattle.vx_patches.specs.Search.{IsBetween, place_among, offset_reads, comparisons, search_cost};
 ghost use Rattle.vx_patches.specs.Slices.{place_of, IsSliceOf, IsKept, IsWhole, front_reads, cut_cost};
 
@@ -122,6 +122,48 @@ impl PatchIndex {
             indices,
             chunk_offsets,
             within: 0,
+        })
+    }
+
+    /// The same indices with chunk offsets of which a slice may have cut a part, and with them how many exceptions of the
+    /// first chunk it cut. Refuses `Malformed` by the first rule that they break, and takes no memory.
+    pub fn with_cut_offsets<L: Ledger>(
+        self,
+        alloc: Global,
+        chunk_offsets: Option<FlatColumn>,
+        offset_within_chunk: Option<usize>,
+        steps: &mut Steps<L>,
+    ) -> Res<PatchIndex>
+        ensures ok { IfOk result (λ p. p ≡ made_cut self.len self.offset self.indices chunk_offsets offset_within_chunk) }
+        ensures sound { IfOk result IsIndex }
+        ensures err { IfErr result (Refuses (cut_fault self.len self.offset self.indices chunk_offsets offset_within_chunk)) }
+        ensures clean { OnOk result (cut_fault self.len self.offset self.indices chunk_offsets offset_within_chunk ≡ None) }
+        ensures rise { steps.new ≤ steps.old + cut_reads chunk_offsets }
+        ensures monotone { steps.old ≤ steps.new }
+    {
+        let PatchIndex {
+            array_len,
+            offset,
+            indices,
+            chunk_offsets: _,
+            within: _,
+        } = self;
+        if let Some(rule) = rules::cut_fault(
+            array_len,
+            offset,
+            &indices,
+            &chunk_offsets,
+            offset_within_chunk,
+            steps,
+        ) {
+            return Err(malformed(alloc, rule));
+        }
+        Ok(PatchIndex {
+            array_len,
+            offset,
+            indices,
+            chunk_offsets,
+            within: offset_within_chunk.unwrap_or(0),
         })
     }
 
@@ -252,8 +294,8 @@ impl PatchIndex {
         }
     }
 
-    /// From and to which place the exceptions of a row's chunk stand: all of them where there are no chunk offsets. Reads at
-    /// most 3 chunk offsets, and gives so few places that a search among them takes at most 22 comparisons.
+    /// From and to which place the exceptions of a row's chunk stand: all of them where there are no chunk offsets. Where there
+    /// are, it reads at most 3 of them, and gives so few places that a search among them takes at most 22 comparisons.
     pub fn places_near<L: Ledger>(&self, index: usize, steps: &mut Steps<L>) -> (usize, usize)
         requires { index < self.now.len }
         ensures between { IsBetween (indices_of self.now) (index + self.now.offset) result.0 result.1 }

@@ -6,10 +6,10 @@ ghost use Rattle.vx_search.specs.Numbers.{ptype_of};
 ghost use Rattle.vx_patches.specs.Places.{IsIndex, indices_of, rows_of, within_chunk};
 ghost use Rattle.vx_base.specs.Ranges.{ends_cut, SliceCause};
 ghost use Rattle.vx_base.specs.Rules.{Refuses};
-ghost use Rattle.vx_patches.specs.Making.{patches_fault, made};
+ghost use Rattle.vx_patches.specs.Making.{patches_fault, made, cut_patches_fault, made_cut, cut_reads};
 ghost use Rattle.vx_patches.specs.Search.{place_among, offset_reads, comparisons, search_cost};
 ghost use Rattle.vx_patches.specs.Slices.{cut_cost};
-ghost use Rattle.vx_patches.specs.Pairs.{overlay, IsOverlay, pairs_of, firsts, value_at, IsPart, IsAll, IsEntry, EntryCause};
+ghost use Rattle.vx_patches.specs.Pairs.{overlay, IsOverlay, pairs_of, firsts, value_at, IsPart, IsAll, IsEntry, EntryCause, mapped};
 
 use crate::index::{PatchIndex, malformed};
 use crate::rules;
@@ -70,6 +70,60 @@ impl Patches {
             return Err(malformed(alloc, rule));
         }
         let index = places.with_chunk_offsets(alloc, chunk_offsets)?;
+        Ok(Patches { index, values })
+    }
+
+    /// Checked exceptions with chunk offsets of which a slice may have cut a part: what is kept of exceptions in parts, and
+    /// read back. Refuses `Malformed` by the first rule that is broken, and takes no memory.
+    pub fn from_parts<L: Ledger>(
+        alloc: Global,
+        array_len: usize,
+        offset: usize,
+        indices: FlatColumn,
+        values: FlatColumn,
+        chunk_offsets: Option<FlatColumn>,
+        offset_within_chunk: Option<usize>,
+        steps: &mut Steps<L>,
+    ) -> Res<Patches>
+        ensures ok { IfOk result (λ p. p ≡ overlay (made_cut array_len offset indices chunk_offsets offset_within_chunk) values) }
+        ensures sound { IfOk result IsOverlay }
+        ensures err { IfErr result (Refuses (cut_patches_fault array_len offset indices values chunk_offsets offset_within_chunk)) }
+        ensures clean { OnOk result (cut_patches_fault array_len offset indices values chunk_offsets offset_within_chunk ≡ None) }
+        ensures rise { steps.new ≤ steps.old + cut_reads chunk_offsets }
+        ensures monotone { steps.old ≤ steps.new }
+    {
+        let places = PatchIndex::try_new(alloc, array_len, offset, indices, None)?;
+        if let Some(rule) = rules::value_fault(places.indices(), &values) {
+            return Err(malformed(alloc, rule));
+        }
+        let index = places.with_cut_offsets(alloc, chunk_offsets, offset_within_chunk, steps)?;
+        Ok(Patches { index, values })
+    }
+
+    /// Another handle on the same exceptions; copies no row.
+    pub fn share(&self) -> Res<Patches>
+        ensures ok { IfOk result (λ other. other ≡ self.now) }
+        ensures err { IsOkUnless result OutOfMemory }
+    {
+        Ok(Patches {
+            index: self.index.share()?,
+            values: self.values.share()?,
+        })
+    }
+
+    /// The same places with the values that `f` makes of these. Refuses `LengthMismatch` where `f` changes their number, and
+    /// what `f` refuses.
+    pub fn map_values<F: FnOnce(FlatColumn) -> Res<FlatColumn>>(self, f: F) -> Res<Patches>
+        requires { F.pre f self.values }
+        ensures { (values : _) × F.post f self.values values × (result ≡ mapped self values) }
+    {
+        let Patches { index, values } = self;
+        let expected = index.num_patches();
+        let values = f(values)?;
+        let found = values.len();
+        if found != expected {
+            return Err(ColumnError::LengthMismatch { expected, found });
+        }
         Ok(Patches { index, values })
     }
 
@@ -202,6 +256,15 @@ impl Patches {
             SearchResult::Found(place) => Ok(Some(self.values.row_at(alloc, place, steps)?)),
             SearchResult::NotFound(_) => Ok(None),
         }
+    }
+
+    /// The row that has the exception at a place. Raises the steps by one.
+    pub fn row_at<L: Ledger>(&self, place: usize, steps: &mut Steps<L>) -> usize
+        requires { place < length (pairs_of self.now) }
+        ensures row { result ≡ slice_index (firsts (pairs_of self.now)) place }
+        ensures cost { steps.new ≡ steps.old + 1 }
+    {
+        self.index.row_at(place, steps)
     }
 
     /// The first row with an exception. Raises the steps by one.

@@ -1,0 +1,4 @@
+pub mod Laying
+pub mod Fitting
+pub mod Writing
+pub mod Pairs

@@ -1,0 +1,10 @@
+pub mod Keeping
+pub mod Galloping
+pub mod Taking
+pub mod Numbers
+pub mod Filtering
+pub mod Laying
+pub mod Asking
+pub mod Planned
+pub mod Widening
+pub mod Mapped
