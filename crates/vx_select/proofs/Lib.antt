@@ -1,0 +1,11 @@
+pub mod Fits
+pub mod Typed
+pub mod Rising
+pub mod Ranges
+pub mod Deals
+pub mod Costs
+pub mod Named
+pub mod Walks
+pub mod Parts
+pub mod Chosen
+pub mod Selected
