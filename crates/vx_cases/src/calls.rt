@@ -93,6 +93,30 @@ fn refusal(alloc: Global, error: &ColumnError) -> Result<String, AllocError> {
     }
 }
 
+fn answer_call<S: Asked>(rt: &HostRuntime, asked: &mut S, call: &Value) -> io::Result<Answer> {
+    let call = Call::new(call)?;
+    let mut steps = Steps::new(rt, CountLedger::new());
+    let text = text_of(rt.alloc(), answer(rt.alloc(), asked, &call, &mut steps))?;
+    let reads = steps.ledger().count();
+    Ok(Answer { text, reads })
+}
+
+/// The answer to each call, one behind the other.
+fn push_answers<S: Asked>(
+    rt: &HostRuntime,
+    mut asked: S,
+    calls: &Value,
+    answers: &mut Vec<Answer>,
+) -> io::Result<()> {
+    let Some(calls) = calls.as_array() else {
+        return Err(io::Error::other("the calls are no list"));
+    };
+    for call in calls {
+        answers.push(answer_call(rt, &mut asked, call)?)?;
+    }
+    Ok(())
+}
+
 /// The answer to each call, or the refusal of what is to be asked.
 pub fn answer_calls<S: Asked>(
     rt: &HostRuntime,
@@ -100,26 +124,11 @@ pub fn answer_calls<S: Asked>(
     calls: &Value,
     answers: &mut Vec<Answer>,
 ) -> io::Result<()> {
-    let alloc = rt.alloc();
-    let mut asked = match made {
-        Ok(asked) => asked,
+    match made {
+        Ok(asked) => push_answers(rt, asked, calls, answers),
         Err(error) => {
-            let text = refusal(alloc, &error)?;
-            answers.push(Answer { text, reads: 0 })?;
-            return Ok(());
+            let text = refusal(rt.alloc(), &error)?;
+            Ok(answers.push(Answer { text, reads: 0 })?)
         }
-    };
-    let Some(calls) = calls.as_array() else {
-        return Err(io::Error::other("the calls are no list"));
-    };
-    for call in calls {
-        let call = Call::new(call)?;
-        let mut steps = Steps::new(rt, CountLedger::new());
-        let text = text_of(alloc, answer(alloc, &mut asked, &call, &mut steps))?;
-        answers.push(Answer {
-            text,
-            reads: steps.ledger().count(),
-        })?;
     }
-    Ok(())
 }

@@ -14,7 +14,7 @@ use std::alloc::Global;
 use std::ops::Range;
 use vx_base::{ColumnError, DType, FlatColumn, Ledger, Res, Row, RowBuffer, Seq, Steps};
 
-/// A column, by its encoding. It means its type and its rows; its parts are never visible.
+/// A column, by its encoding. It means its type and its rows, which don't tell how it is cut.
 pub enum Column {
     /// Rows as they are, or one row several times.
     Flat(FlatColumn),

@@ -38,7 +38,7 @@ pub type PatchedArray = Patched<Column>;
 
 impl Patched<Column> {
     /// The inner column under the exceptions of a layout. Refuses `Unsupported` where it doesn't hold integers, or else
-    /// by the first rule that is broken. The crate makes the layout from patches.
+    /// by the first rule that is broken. vortex-array makes the layout from patches.
     pub fn try_new<L: Ledger>(
         alloc: Global,
         inner: Column,

@@ -6,7 +6,7 @@ use vx_base::Seq;
 pub enum Step {
     /// Keeps rows `start` to below `end`.
     Slice { start: usize, end: usize },
-    /// Answers the rows of these numbers, and keeps the column. `kept` asks for one reader over all of them; for now each
-    /// row is read by a reader of its own either way.
+    /// Answers the rows of these numbers, and keeps the column. `kept` asks for a reader that keeps what it
+    /// learned from one row to the next; for now nothing is kept either way.
     Points { rows: Seq<usize>, kept: bool },
 }

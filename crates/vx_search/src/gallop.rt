@@ -11,7 +11,7 @@ use std::ops::Range;
 use vx_base::{Ledger, Res, Steps};
 
 /// The first place of the range whose element isn't less than the needle, or the range's end. Over n places it makes no
-/// comparison for n = 0, and else one more than the logarithm of n, rounded up.
+/// comparison for n = 0, and else at most one more than the logarithm of n, rounded up.
 pub fn partition_point_counted<S: IndexOrd<V>, V, L: Ledger>(
     seq: &mut S,
     range: Range<usize>,

@@ -8,14 +8,14 @@ pub fn round_trip()
     ensures lanes { LanesReadBack }
 {}
 
-/// Bytes stand for one list of fields or have one first fault, and never both.
+/// Bytes stand for at most one list of fields, have at most one first fault, and never both.
 pub fn one_reading()
     ensures fields { OneReading }
     ensures apart { NoFaultWhereRead }
     ensures fault { OneFault }
 {}
 
-/// More is read than is written: a message stays the same with fields of unknown tags behind it.
+/// More is read than is written: a message of patches stays the same with fields of unknown tags behind it.
 pub fn more_spellings()
     ensures { UnknownIsPassedOver }
 {}
