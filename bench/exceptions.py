@@ -9,6 +9,7 @@ what these reads counted on average and at most, how much one may count, and the
 1,000,000 reads less that of one with none, over the number of reads. Each time is the fastest of 3. The program looks at
 each row that it reads. The script ends with 1 where a row was wrong, or a read counted more than it may.
 """
+import argparse
 import pathlib
 import subprocess
 import sys
@@ -54,7 +55,9 @@ def measured(program, offsets):
 
 
 def main():
-    program = sys.argv[1] if len(sys.argv) > 1 else built()
+    parser = argparse.ArgumentParser(description="Measures reads of a column with exceptions. README.md says more.")
+    parser.add_argument("program", nargs="?", help="the program, in place of vx_column_bench, which is built else")
+    program = parser.parse_args().program or built()
     print("| chunk offsets | column and 1,000 reads | counted on average | at most | allowed | time of a read |")
     print("|---|---|---|---|---|---|")
     within = [measured(program, offsets) for offsets in ("without", "with")]

@@ -8,6 +8,7 @@ script runs it with many searches on each side and with none; the time of a sear
 of 3, over the number of searches. It ends with 1 where a search made more comparisons than it may, and with an error
 where the program refused, as it does where a search doesn't answer the place of its value.
 """
+import argparse
 import pathlib
 import subprocess
 import sys
@@ -52,15 +53,15 @@ def measured(program, size):
 
 
 def built():
-    """The program, built where none is named."""
-    if len(sys.argv) > 1:
-        return sys.argv[1]
+    """The program, built by a run of it."""
     subprocess.run(["rt", "run"], cwd=CRATE, stdout=subprocess.DEVNULL, check=True)
     return CRATE / "out" / "vx_search_bench"
 
 
 def main():
-    program = built()
+    parser = argparse.ArgumentParser(description="Measures sorted search. README.md says more.")
+    parser.add_argument("program", nargs="?", help="the program, in place of vx_search_bench, which is built else")
+    program = parser.parse_args().program or built()
     print("| elements | comparisons made at most | allowed | time of a search |")
     print("|---|---|---|---|")
     kept = [measured(program, size) for size in SIZES]

@@ -10,8 +10,8 @@ shared. Where several errors are true of a step, each of them is right. The scri
 often each kind of reply was met; it ends with 1 where a reply was wrong. The same seed makes the same jobs.
 
 PROGRAM is the built vxcol; another that takes the same words may be named, as that of bench/yardstick. With --tried nothing has to
-be built or proved: all jobs go to the driver of worked examples of jobs, in one run of `rt try`, which takes a minute and
-has the time for some 1,000 of them.
+be built or proved: all jobs go to the driver of worked examples of jobs, in one run of `rt try`, which takes two
+minutes or three and has the time for some 1,000 of them.
 """
 import argparse
 import collections

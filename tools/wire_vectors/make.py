@@ -9,6 +9,7 @@ It wants Debian's protobuf-compiler and nothing else. A seed fixes the messages,
 With --check it writes nothing, and ends with 1 where the file differs from what it would write.
 """
 
+import argparse
 import pathlib
 import random
 import subprocess
@@ -156,8 +157,11 @@ def cases():
 
 
 def main():
+    parser = argparse.ArgumentParser(description="Writes the cases of metadata bytes that vx_wire is tested on.")
+    parser.add_argument("--check", action="store_true", help="write nothing, and end with 1 where the file differs")
+    given = parser.parse_args()
     text = "\n".join(cases())
-    if "--check" in sys.argv[1:]:
+    if given.check:
         return int(CASES.read_text() != text)
     CASES.write_text(text)
     return 0
