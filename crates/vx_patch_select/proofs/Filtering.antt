@@ -27,7 +27,7 @@ use Rattle.vx_patch_select.proofs.Galloping.{rank_yes, rank_all}
 
 -- ---- rows with values are rows with places, and the values there
 
-zip_placed : {A : Type 0} (at : ℕ) (rows : List ℕ) (whole : List A) (d : A) → at + length rows ≡ length whole → zip rows (drop at whole) ≡ map (λ (p : ℕ × ℕ). (p.0, get_or whole p.1 d)) (placed_from at rows)
+pub zip_placed : {A : Type 0} (at : ℕ) (rows : List ℕ) (whole : List A) (d : A) → at + length rows ≡ length whole → zip rows (drop at whole) ≡ map (λ (p : ℕ × ℕ). (p.0, get_or whole p.1 d)) (placed_from at rows)
 zip_placed at [] whole d e = refl
 zip_placed {A} at (r ∷ rs) whole d e =
     ap (zip (r ∷ rs)) (drop_more whole at d (omega arith)) ∙ ap (λ (ps : List (ℕ × A)). (r, get_or whole at d) ∷ ps) (zip_placed (at + 1) rs whole d (omega arith))
@@ -101,7 +101,7 @@ module _ (bits : List Bool) (rows : List ℕ) (rising : IsStrictlyIncreasing row
       omega (arith, one, rank_less bits row (length bits) here (bit_inside bits row here), rank_all bits (length bits) (omega arith))
 
 -- each row is one of those that there are
-rows_inside : (index : Index) → IsIndex index → (k : ℕ) → k < length (rows_of index) → get_or (rows_of index) k 0 < index.len
+pub rows_inside : (index : Index) → IsIndex index → (k : ℕ) → k < length (rows_of index) → get_or (rows_of index) k 0 < index.len
 rows_inside index i k l =
     let xs = indices_of index in
     let here : k < length xs = omega (arith, rows_number index) in
@@ -141,7 +141,7 @@ firsts_on : {A : Type 0} (f : ℕ → A) (ps : List (ℕ × ℕ)) → firsts (ma
 firsts_on f [] = refl
 firsts_on f (p ∷ ps) = ap (λ (ns : List ℕ). p.0 ∷ ns) (firsts_on f ps)
 
-seconds_on : {A : Type 0} (f : ℕ → A) (ps : List (ℕ × ℕ)) → map (λ (p : ℕ × A). p.1) (map (λ (p : ℕ × ℕ). (p.0, f p.1)) ps) ≡ map f (map (λ (p : ℕ × ℕ). p.1) ps)
+pub seconds_on : {A : Type 0} (f : ℕ → A) (ps : List (ℕ × ℕ)) → map (λ (p : ℕ × A). p.1) (map (λ (p : ℕ × ℕ). (p.0, f p.1)) ps) ≡ map f (map (λ (p : ℕ × ℕ). p.1) ps)
 seconds_on f [] = refl
 seconds_on {A} f (p ∷ ps) = ap (λ (xs : List A). f p.1 ∷ xs) (seconds_on f ps)
 
@@ -163,7 +163,7 @@ filter_made bits o i n indices places e f some h =
     ∙ ap (λ (vs : List (Option Value)). Some (fresh (count_true bits) indices (flat o.values.dtype vs))) (seconds_on value ks ∙ ap (map value) (sym f))
     ∙ ap (λ (m : ℕ). Some (fresh m indices (flat o.values.dtype (picked_at o.values.rows places)))) (sym h))
 
-no_map : {A : Type 0} (f : ℕ × ℕ → A) (ps : List (ℕ × ℕ)) → length (map f ps) ≡ 0 → ps ≡ []
+pub no_map : {A : Type 0} (f : ℕ × ℕ → A) (ps : List (ℕ × ℕ)) → length (map f ps) ≡ 0 → ps ≡ []
 no_map f [] h = refl
 no_map f (p ∷ ps) h = absurd (omega arith)
 
@@ -180,7 +180,7 @@ filter_none bits o i places f none =
 pub count_least : (bits : List Bool) → count_true bits ≤ length bits
 count_least bits = count_by-le-length (λ (b : Bool). b) bits
 
-all_counted : (bits : List Bool) → count_true bits ≡ length bits → all_true bits ≡ true
+pub all_counted : (bits : List Bool) → count_true bits ≡ length bits → all_true bits ≡ true
 all_counted [] h = refl
 all_counted (true ∷ bits) h = all_counted bits (omega (arith, sum_by-cons (λ (b : Bool). cond b 1 0) true bits))
 all_counted (false ∷ bits) h = absurd (omega (arith, sum_by-cons (λ (b : Bool). cond b 1 0) false bits, count_least bits))
@@ -197,7 +197,7 @@ is_all bits h e = false≢true (sym e ∙ all_counted bits h)
 pub is_not_all : (bits : List Bool) → (count_true bits ≡ length bits → ⊥) → all_true bits ≡ true → ⊥
 is_not_all bits h e = h (counted_all bits e)
 
-bit_all : (bits : List Bool) (row : ℕ) → all_true bits ≡ true → row < length bits → bit_at bits row ≡ true
+pub bit_all : (bits : List Bool) (row : ℕ) → all_true bits ≡ true → row < length bits → bit_at bits row ≡ true
 bit_all [] row h l = absurd (omega arith)
 bit_all (true ∷ bits) zero h l = refl
 bit_all (true ∷ bits) (suc row) h l = bit_all bits row h (omega arith)

@@ -8,3 +8,4 @@ pub mod Asking
 pub mod Planned
 pub mod Widening
 pub mod Mapped
+pub mod Unmasking

@@ -77,11 +77,11 @@ numbers_rows (n ∷ ns) = ap (λ (o : Option ℤ). magnitude o ∷ numbers_of (m
 unsigned_type : is_unsigned number_type ≡ true
 unsigned_type = ap layer_is_unsigned (ap out-DType (sym (rolls-Primitive U64 NonNullable)) ∙ out-roll-DType (DType-F.Primitive U64 NonNullable))
 
-none_broken : (rule : Rule × Bool) (rules : List (Rule × Bool)) → rule.1 ≡ false → first_broken rules ≡ None → first_broken (rule ∷ rules) ≡ None
+pub none_broken : (rule : Rule × Bool) (rules : List (Rule × Bool)) → rule.1 ≡ false → first_broken rules ≡ None → first_broken (rule ∷ rules) ≡ None
 unfolding first_broken
 none_broken rule rules e h = ap (λ (b : Bool). cond b (Some rule.0) (first_broken rules)) e ∙ h
 
-no_rules : first_broken [] ≡ None
+pub no_rules : first_broken [] ≡ None
 unfolding first_broken
 no_rules = refl
 
@@ -103,10 +103,10 @@ all_below hi (x ∷ xs) h =
 too_long_no : (len : ℕ) → len < 18446744073709551616 → nat_le 18446744073709551616 (0 + len) ≡ false
 too_long_no len h = grind (arith, nat_tests)
 
-some_no : (n : ℕ) → 0 < n → nat_eq n 0 ≡ false
+pub some_no : (n : ℕ) → 0 < n → nat_eq n 0 ≡ false
 some_no n h = grind (arith, nat_tests)
 
-same_yes : (m n : ℕ) → m ≡ n → nat_eq m n ≡ true
+pub same_yes : (m n : ℕ) → m ≡ n → nat_eq m n ≡ true
 same_yes m n h = grind (arith, nat_tests)
 
 pub no_fault : (len : ℕ) (ns : List ℕ) (values : Flat) → len < 18446744073709551616 → 0 < length ns → IsStrictlyIncreasing ns → get_or ns (length ns - 1) 0 < len → length values.rows ≡ length ns →

@@ -64,7 +64,7 @@ module _ {A B : Type 0} (f : Option A → Option B) (nothing : f None ≡ None) 
   pub taken_natural : (pairs : List (ℕ × Option A)) (indices : List (Option ℕ)) → taken_pairs nulls (map on pairs) indices ≡ map on (taken_pairs nulls pairs indices)
   taken_natural pairs indices = natural_from pairs 0 indices
 
-zip_on : {A B : Type 0} (f : A → B) (ps : List (ℕ × A)) → zip (map (λ (p : ℕ × A). p.0) ps) (map f (map (λ (p : ℕ × A). p.1) ps)) ≡ map (λ (p : ℕ × A). (p.0, f p.1)) ps
+pub zip_on : {A B : Type 0} (f : A → B) (ps : List (ℕ × A)) → zip (map (λ (p : ℕ × A). p.0) ps) (map f (map (λ (p : ℕ × A). p.1) ps)) ≡ map (λ (p : ℕ × A). (p.0, f p.1)) ps
 zip_on f [] = refl
 zip_on {A} {B} f (p ∷ ps) = ap (λ (qs : List (ℕ × B)). (p.0, f p.1) ∷ qs) (zip_on f ps)
 
@@ -204,7 +204,7 @@ firsts_of [] xs h = refl
 firsts_of (n ∷ ns) [] h = absurd (omega arith)
 firsts_of (n ∷ ns) (x ∷ xs) h = ap (λ (ms : List ℕ). n ∷ ms) (firsts_of ns xs (omega arith))
 
-seconds_of : {A : Type 0} (ns : List ℕ) (xs : List A) → length xs ≡ length ns → map (λ (p : ℕ × A). p.1) (zip ns xs) ≡ xs
+pub seconds_of : {A : Type 0} (ns : List ℕ) (xs : List A) → length xs ≡ length ns → map (λ (p : ℕ × A). p.1) (zip ns xs) ≡ xs
 seconds_of [] [] h = refl
 seconds_of [] (x ∷ xs) h = absurd (omega arith)
 seconds_of (n ∷ ns) [] h = absurd (omega arith)

@@ -10,6 +10,7 @@ pub mod plan;
 mod rows;
 pub mod select;
 mod take;
+mod unmask;
 mod widen;
 
 pub use plan::{Kept, SelectPlaces, Taken};

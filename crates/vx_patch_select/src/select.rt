@@ -9,13 +9,13 @@ ghost use Rattle.vx_patches.specs.Pairs.{pairs_of};
 ghost use Rattle.vx_patch_select.specs.Selected.{kept_pairs};
 ghost use Rattle.vx_patch_select.specs.Plans.{kept_of, planned};
 ghost use Rattle.vx_patches.specs.Search.{search_cost};
-ghost use Rattle.vx_patch_select.specs.Patched.{of_pairs, pairs_left, MaskCause};
+ghost use Rattle.vx_patch_select.specs.Patched.{of_pairs, pairs_left, IsUnmasked, MaskCause};
 ghost use Rattle.vx_patch_select.specs.Takes.{names_rows, taken, TakeCause};
 
 use crate::fresh::fresh;
 use crate::plan::Kept;
 use crate::rows::PatchRows;
-use crate::{kept, take};
+use crate::{kept, take, unmask};
 use std::alloc::Global;
 use vx_base::{ColumnError, FlatColumn, Ledger, Res, Steps};
 use vx_bulk::{Bulk, PrimitiveArray};
@@ -26,6 +26,15 @@ use vx_patches::Patches;
 pub trait SelectPatches: Sized {
     /// The exceptions of the rows whose bit is true, among these rows alone. Refuses a mask of another length.
     fn filter<L: Ledger>(
+        &self,
+        alloc: Global,
+        mask: &Mask,
+        steps: &mut Steps<L>,
+    ) -> Res<Option<Self>>;
+
+    /// The exceptions of the rows whose bit is false, each at its index as before. A null may be one of their values. Chunk
+    /// offsets stay where no bit is true, and are dropped else. Refuses a mask of another length.
+    fn mask<L: Ledger>(
         &self,
         alloc: Global,
         mask: &Mask,
@@ -93,6 +102,21 @@ impl SelectPatches for Patches {
             return Ok(Some(self.share()?));
         }
         filtered(self, alloc, mask, steps)
+    }
+
+    fn mask<L: Ledger>(
+        &self,
+        alloc: Global,
+        mask: &Mask,
+        steps: &mut Steps<L>,
+    ) -> Res<Option<Patches>>
+        ensures ok { IfOk result (IsUnmasked (bits_of mask.now) self.now) }
+        ensures long { OnOk result (length (bits_of mask.now) ≡ self.now.index.len) }
+        ensures err { IfErr result (MaskCause self.now.index.len (length (bits_of mask.now))) }
+        ensures rise { steps.new ≤ steps.old + 4 * length (indices_of self.now.index) }
+        ensures monotone { steps.old ≤ steps.new }
+    {
+        unmask::unmasked(self, alloc, mask, steps)
     }
 
     fn take<L: Ledger>(

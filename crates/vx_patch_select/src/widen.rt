@@ -8,7 +8,7 @@ use std::alloc::Global;
 use vx_base::{FlatColumn, Ledger, Res, Steps};
 use vx_bulk::Bulk;
 
-/// The same values, of which a null may be one.
+/// The same values, of which a null may be one. Where one may be already, no row is copied.
 pub(crate) fn widened_values<L: Ledger>(
     values: &FlatColumn,
     alloc: Global,
@@ -19,6 +19,9 @@ pub(crate) fn widened_values<L: Ledger>(
     ensures rise { steps.new ≤ steps.old + length values.now.rows }
     ensures monotone { steps.old ≤ steps.new }
 {
+    if values.dtype().nullability().is_nullable() {
+        return values.share();
+    }
     let keep = all_kept(alloc, values.len())?;
     values.mask(alloc, keep.as_slice(), steps)
 }

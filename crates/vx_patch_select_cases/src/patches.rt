@@ -1,7 +1,7 @@
 //! Calls on exceptions. B are bits, as `"101"`.
 //!
 //! - `["filter",B]`, `["filter_cached",B]` make the exceptions of the rows whose bit is true, by a mask without cached indices
-//!   and with them; `["slice",start,end]` makes those of these rows;
+//!   and with them; `["mask",B]` makes those of the rows whose bit is false; `["slice",start,end]` makes those of these rows;
 //! - `["take",F]`, `["take_with_nulls",F]` make those that indices name, and so do `["take_search",F,nulls]` and
 //!   `["take_map",F,nulls]`;
 //! - `["pairs"]`: each row with its exception;
@@ -66,6 +66,16 @@ fn filtered_cached<L: Ledger>(
     patches.filter(alloc, &mask, steps)
 }
 
+fn unmasked<L: Ledger>(
+    patches: &Patches,
+    alloc: Global,
+    bits: &Value,
+    steps: &mut Steps<L>,
+) -> Res<Option<Patches>> {
+    let mask = mask_of(alloc, bits)?;
+    patches.mask(alloc, &mask, steps)
+}
+
 /// Adds a row and its exception.
 fn push_pair<L: Ledger>(
     patches: &Patches,
@@ -118,6 +128,7 @@ impl Asked for AskedPatches {
             call.name,
             "filter"
                 | "filter_cached"
+                | "mask"
                 | "slice"
                 | "take"
                 | "take_with_nulls"
@@ -135,6 +146,7 @@ impl Asked for AskedPatches {
         let left = match call.name {
             "filter" => filtered(&self.patches, alloc, call.argument(1), steps)?,
             "filter_cached" => filtered_cached(&self.patches, alloc, call.argument(1), steps)?,
+            "mask" => unmasked(&self.patches, alloc, call.argument(1), steps)?,
             "slice" => self.patches.slice(call.number(1)..call.number(2), steps)?,
             _ => taken(&self.patches, alloc, call, steps)?,
         };
