@@ -1,0 +1,5 @@
+pub mod Total
+pub mod Exact
+pub mod Types
+pub mod Lists
+pub mod Fitting

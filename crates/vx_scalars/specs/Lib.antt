@@ -1,0 +1,4 @@
+pub mod Scalars
+pub mod Operators
+pub mod Orders
+pub mod Elementwise
