@@ -1,5 +1,6 @@
 pub mod Parts
 pub mod Decided
 pub mod Faults
+pub mod SelectionErrors
 pub mod StepErrors
 pub mod Runs

@@ -5,9 +5,10 @@ use Rattle.vx_rows.specs.declared.error.ColumnError.{ColumnError}
 use Rattle.vx_rows.specs.declared.error.ColumnError.TheVariants.{OutOfMemory, BadRange, OutOfBounds}
 use Rattle.vx_base.specs.Column.{Flat}
 use Rattle.vx_job.specs.declared.step.Step.{Step}
-use Rattle.vx_job.specs.declared.step.Step.TheVariants.{Slice, Points}
+use Rattle.vx_job.specs.declared.step.Step.TheVariants.{Slice, Points, Filter, Take, Runs}
 use Rattle.vx_job.specs.Steps.{IsFree, AreInside, IsPointsError}
 use Rattle.vx_job.specs.Laws.{HasError}
+use Rattle.vx_job.proofs.SelectionErrors.{length_judged, take_judged, runs_judged}
 
 abbrev Judged : List Flat → ℕ → Flat → Step → Type 0
 Judged sources number c step = IsFree sources number c step ⊎ HasError sources number c step
@@ -62,3 +63,6 @@ points_judged sources number c numbers kept = by (numbers_judged (length c.rows)
 pub step_judged : (sources : List Flat) (number : ℕ) (c : Flat) (step : Step) → Judged sources number c step
 step_judged sources number c (Slice start end) = slice_judged sources number c start end
 step_judged sources number c (Points numbers kept) = points_judged sources number c numbers kept
+step_judged sources number c (Filter mask) = length_judged (length c.rows) (length mask)
+step_judged sources number c (Take indices) = take_judged (length c.rows) indices
+step_judged sources number c (Runs runs len) = runs_judged (length c.rows) len runs

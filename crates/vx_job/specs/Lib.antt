@@ -3,6 +3,7 @@ pub mod Rows
 pub mod Kinds
 pub mod Faults
 pub mod Parts
+pub mod Selections
 pub mod Steps
 pub mod Plans
 pub mod Laws

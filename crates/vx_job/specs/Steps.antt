@@ -1,26 +1,37 @@
 -- What a step means on a flat list of rows, why it is refused, and what it may cost. The sources are the types and rows
 -- of all parts, as they are opened.
-use Rattle.std.specs.Prelude.{◌≡◌, ◌≤◌, ◌<◌, ◌⊎◌, ℕ, ◌*◌, List, [], ◌∷◌, length, slice_index}
+use Rattle.std.specs.Prelude.{◌≡◌, ◌≤◌, ◌<◌, ◌⊎◌, ℕ, ◌*◌, List, [], ◌∷◌, length, slice_index, IsFalse}
 use Rattle.std.specs.List.{slice_range}
+use Rattle.vx_rows.specs.Types.{is_nested}
 use Rattle.vx_rows.specs.declared.dtype.DType.{DType}
 use Rattle.vx_rows.specs.declared.error.ColumnError.{ColumnError}
 use Rattle.vx_rows.specs.declared.error.ColumnError.TheVariants.{BadRange, OutOfBounds}
 use Rattle.vx_base.specs.Column.{Flat, flat}
+use Rattle.vx_masks.specs.Bits.{count_true}
+use Rattle.vx_bulk.specs.Selections.{kept, picked as picked_where, joined_runs}
+use Rattle.vx_bulk.specs.Types.{taken_type}
 use Rattle.vx_job.specs.declared.step.Step.{Step}
-use Rattle.vx_job.specs.declared.step.Step.TheVariants.{Slice, Points}
+use Rattle.vx_job.specs.declared.step.Step.TheVariants.{Slice, Points, Filter, Take, Runs}
 use Rattle.vx_job.specs.declared.page.Answer.{Answer}
 use Rattle.vx_job.specs.declared.page.Answer.TheVariants as answer
 use Rattle.vx_job.specs.Rows.{picked}
+use Rattle.vx_job.specs.Selections.{IsLengthError, IsTakeError, IsRunsError}
 
 -- the type and the rows that a step leaves
 abbrev pub step_leaves : List Flat → Flat → Step → Flat
 step_leaves sources c (Slice start end) = flat c.dtype (slice_range c.rows start end)
-step_leaves sources c (Points numbers kept) = c
+step_leaves sources c (Points numbers keeps) = c
+step_leaves sources c (Filter mask) = flat c.dtype (kept c.rows mask)
+step_leaves sources c (Take indices) = flat (taken_type c.dtype indices) (picked_where c.rows indices)
+step_leaves sources c (Runs runs len) = flat c.dtype (joined_runs c.rows runs)
 
 -- the answer of a step, where it gives one
 abbrev pub step_answers : List Flat → Flat → Step → List Answer
 step_answers sources c (Slice start end) = []
-step_answers sources c (Points numbers kept) = answer.Rows (picked c.rows numbers) ∷ []
+step_answers sources c (Points numbers keeps) = answer.Rows (picked c.rows numbers) ∷ []
+step_answers sources c (Filter mask) = []
+step_answers sources c (Take indices) = []
+step_answers sources c (Runs runs len) = []
 
 -- each number that is named is that of a row
 abbrev pub AreInside : ℕ → List ℕ → Type 0
@@ -34,7 +45,10 @@ IsPointsError len numbers e = (k : ℕ) × (k < length numbers) × (e ≡ OutOfB
 abbrev pub IsStepError : List Flat → ℕ → Flat → Step → ColumnError → Type 0
 IsStepError sources number c (Slice start end) e =
     ((e ≡ BadRange start end) × (end < start)) ⊎ ((e ≡ OutOfBounds end (length c.rows)) × (length c.rows < end))
-IsStepError sources number c (Points numbers kept) e = IsPointsError (length c.rows) numbers e
+IsStepError sources number c (Points numbers keeps) e = IsPointsError (length c.rows) numbers e
+IsStepError sources number c (Filter mask) e = IsLengthError (length c.rows) (length mask) e
+IsStepError sources number c (Take indices) e = IsTakeError (length c.rows) indices e
+IsStepError sources number c (Runs runs len) e = IsRunsError (length c.rows) len runs e
 
 -- no error is true of a step
 abbrev pub IsFree : List Flat → ℕ → Flat → Step → Type 0
@@ -43,9 +57,16 @@ IsFree sources number c step = (e : ColumnError) → IsStepError sources number 
 -- the steps whose reads have a bound, over a column of a type
 abbrev pub HasBound : DType → Step → Type 0
 HasBound t (Slice start end) = Unit {0}
-HasBound t (Points numbers kept) = Unit {0}
+HasBound t (Points numbers keeps) = Unit {0}
+HasBound t (Filter mask) = IsFalse (is_nested t)
+HasBound t (Take indices) = IsFalse (is_nested t)
+HasBound t (Runs runs len) = IsFalse (is_nested t)
 
--- that bound, by the cost of a read and of n rows of a selection: four reads a slice, one for each row that is named
+-- that bound, by the cost of a read and of n rows of a selection: four reads a slice, one for each row that is named, and
+-- a selection of as many rows as a step gives
 abbrev pub step_cost : ℕ → (ℕ → ℕ) → Step → ℕ
 step_cost point select (Slice start end) = 4 * point
-step_cost point select (Points numbers kept) = length numbers * point
+step_cost point select (Points numbers keeps) = length numbers * point
+step_cost point select (Filter mask) = select (count_true mask)
+step_cost point select (Take indices) = select (length indices)
+step_cost point select (Runs runs len) = select len

@@ -1,4 +1,5 @@
 pub mod Opened
 pub mod Refused
 pub mod Runs
+pub mod Selecting
 pub mod Headline

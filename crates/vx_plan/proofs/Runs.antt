@@ -6,11 +6,13 @@ use Rattle.std.proofs.lemmas.Bool.Decides.{nat_tests}
 use Rattle.std.proofs.Math.ListN.{drop_of_length-le}
 use Rattle.std.proofs.Math.Nat.{mul-le-mul, mul-le-mul_left}
 use Rattle.std.specs.List.{All}
+use Rattle.vx_rows.specs.Types.{is_nested}
 use Rattle.vx_rows.specs.declared.dtype.DType.{DType}
 use Rattle.vx_rows.specs.declared.error.ColumnError.{ColumnError}
 use Rattle.vx_rows.specs.declared.error.ColumnError.TheVariants.{OutOfMemory}
 use Rattle.vx_base.specs.Column.{Flat}
 use Rattle.vx_base.specs.Ranges.{ends_cut}
+use Rattle.vx_masks.specs.Bits.{count_true}
 use Rattle.vx_column.specs.Columns.{type_of, point_cost, select_bound}
 use Rattle.vx_column.specs.declared.column.Column.{Column}
 use Rattle.vx_job.specs.Rows.{Rows, picked}
@@ -18,7 +20,7 @@ use Rattle.vx_job.specs.Steps.{step_leaves, step_answers, IsStepError, IsFree, A
 use Rattle.vx_job.specs.Plans.{RunsTo, StopsWith, plan_cost}
 use Rattle.vx_job.specs.declared.page.Answer.{Answer}
 use Rattle.vx_job.specs.declared.step.Step.{Step}
-use Rattle.vx_job.specs.declared.step.Step.TheVariants.{Slice, Points}
+use Rattle.vx_job.specs.declared.step.Step.TheVariants.{Slice, Points, Filter, Take, Runs}
 use Rattle.vx_plan.specs.AnswersView.{CostsNoMore}
 
 -- ---- what runs
@@ -83,13 +85,24 @@ select_less x y costs n = omega (arith, mul-le-mul_left (8 * n) costs.point, cos
 cost_less : (point first : ℕ) (select whole : ℕ → ℕ) (step : Step) → point ≤ first → ((n : ℕ) → select n ≤ whole n) → step_cost point select step ≤ step_cost first whole step
 cost_less point first select whole (Slice start end) h k = omega arith
 cost_less point first select whole (Points numbers kept) h k = mul-le-mul_left (length numbers) h
+cost_less point first select whole (Filter mask) h k = k (count_true mask)
+cost_less point first select whole (Take indices) h k = k (length indices)
+cost_less point first select whole (Runs runs len) h k = k len
+
+-- whether a step has a bound depends on whether the type is nested
+bound_kept : (s t : DType) (step : Step) → is_nested t ≡ is_nested s → HasBound s step → HasBound t step
+bound_kept s t (Slice start end) same bound = bound
+bound_kept s t (Points numbers kept) same bound = bound
+bound_kept s t (Filter mask) same bound = same ∙ bound
+bound_kept s t (Take indices) same bound = same ∙ bound
+bound_kept s t (Runs runs len) same bound = same ∙ bound
 
 -- each step of a bounded plan has a bound, also over a later column
 pub bound_at : (first column : Column) (plan : List Step) (k : ℕ) (step : Step) → k < length plan → step ≡ get_or plan k step → All (HasBound (type_of first)) plan
     → CostsNoMore first column → HasBound (type_of column) step
 bound_at first column plan k step h at bounded costs =
     subst (λ (s : Step). HasBound (type_of column) s) (sym at)
-    (subst (λ (t : DType). HasBound t (get_or plan k step)) (sym costs.dtype) (All-get_or (HasBound (type_of first)) plan k step h bounded))
+    (bound_kept (type_of first) (type_of column) (get_or plan k step) costs.nested (All-get_or (HasBound (type_of first)) plan k step h bounded))
 
 pub rise_at : (first column : Column) (plan : List Step) (k : ℕ) (step : Step) (old mid new : ℕ) → k < length plan → step ≡ get_or plan k step → CostsNoMore first column
     → mid ≤ old + plan_cost (point_cost first) (select_bound first) (take k plan) → new ≤ mid + step_cost (point_cost column) (select_bound column) step
@@ -105,13 +118,13 @@ rise_at first column plan k step old mid new h at costs r s =
     (now, omega (arith, cost_part point select plan (k + 1)))
 
 pub costs_same : (x : Column) → CostsNoMore x x
-costs_same x = record { dtype = refl; point = omega arith; cut = omega arith; lanes = omega arith; plain = λ h. h }
+costs_same x = record { nested = refl; point = omega arith; cut = omega arith; lanes = omega arith; plain = λ h. h }
 
 -- costs from a column to one after the next
 pub costs_on : (x y z : Column) → CostsNoMore x y → CostsNoMore y z → CostsNoMore x z
 costs_on x y z a b =
     let p = b.point in let q = b.cut in let l = b.lanes in
-    record { dtype = b.dtype ∙ a.dtype; point = omega (arith, a.point); cut = omega (arith, a.cut); lanes = omega (arith, a.lanes); plain = λ h. b.plain (a.plain h) }
+    record { nested = b.nested ∙ a.nested; point = omega (arith, a.point); cut = omega (arith, a.cut); lanes = omega (arith, a.lanes); plain = λ h. b.plain (a.plain h) }
 
 -- ---- a slice and points
 

@@ -4,6 +4,7 @@
 pub mod answers;
 pub mod open;
 pub mod run;
+mod selections;
 
 pub use answers::Answers;
 pub use run::run_plan;

@@ -14,6 +14,7 @@ ghost use Rattle.vx_plan.specs.AnswersView.{CostsNoMore};
 
 use crate::answers::Answers;
 use crate::open::open_parts;
+use crate::selections::{filter, join_runs, take};
 use std::alloc::Global;
 use vx_base::{ColumnError, Ledger, Res, Row, Seq, Steps};
 use vx_column::{ArrayProbe, Column};
@@ -99,6 +100,12 @@ fn take_step<L: Ledger>(
         Step::Points { rows, kept: _ } => {
             answer_points(alloc, column, rows.as_slice(), answers, steps)?;
             Ok(None)
+        }
+        Step::Filter { mask } => Ok(Some(filter(alloc, column, mask.as_slice(), steps)?)),
+        Step::Take { indices } => Ok(Some(take(alloc, column, indices.as_slice(), steps)?)),
+        Step::Runs { runs, len } => {
+            let next = join_runs(alloc, column, runs.as_slice(), *len, steps)?;
+            Ok(Some(next))
         }
     }
 }

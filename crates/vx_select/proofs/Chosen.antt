@@ -14,7 +14,8 @@ use Rattle.vx_masks.specs.Bits.{count_true, places_from, places_of, kept}
 use Rattle.vx_job.specs.Rows.{Rows, picked as rows_at}
 use Rattle.vx_select.specs.Spots.{AreBelow}
 use Rattle.vx_bulk.specs.Selections.{picked, picked_row, joined_runs, IsWithin, IsInside}
-use Rattle.vx_select.specs.Causes.{present, run_places, run_total, IsBeyond, TakeCause}
+use Rattle.vx_job.specs.Selections.{run_total, IsBeyond}
+use Rattle.vx_select.specs.Causes.{present, run_places, TakeCause}
 use Rattle.vx_select.proofs.Ranges.{picked_range}
 
 -- ---- masks

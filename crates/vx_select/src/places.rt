@@ -8,7 +8,8 @@ ghost use Rattle.vx_masks.specs.Masks.{bits_of};
 ghost use Rattle.vx_job.specs.Kinds.{is_nullable};
 ghost use Rattle.vx_job.specs.Rows.{Rows, picked as rows_at};
 ghost use Rattle.vx_bulk.specs.Selections.{picked, IsWithin, IsInside};
-ghost use Rattle.vx_select.specs.Causes.{IsBeyond, TakeCause, RunBeyond, RunsCause, run_total, run_places, present};
+ghost use Rattle.vx_job.specs.Selections.{IsBeyond, IsRunBeyond, run_total};
+ghost use Rattle.vx_select.specs.Causes.{TakeCause, RunsCause, run_places, present};
 
 use std::alloc::Global;
 use vx_base::{ColumnError, DType, Res, RowBuffer};
@@ -145,7 +146,7 @@ fn held(total: u128) -> usize
 /// Refuses a run whose last row is past the end.
 fn check_run(start: usize, count: usize, len: usize) -> Res<()>
     ensures inside { OnOk result (IsInside len (start, count)) }
-    ensures err { IfErr result (RunBeyond len (start, count)) }
+    ensures err { IfErr result (IsRunBeyond len (start, count)) }
 {
     if count > 0 && (count > len || start > len - count) {
         return Err(ColumnError::OutOfBounds {

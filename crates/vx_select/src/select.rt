@@ -5,12 +5,13 @@ ghost use Rattle.vx_rows.specs.Fits.{rows_fit};
 ghost use Rattle.vx_masks.specs.Bits.{count_true, places_of};
 ghost use Rattle.vx_masks.specs.Masks.{bits_of};
 ghost use Rattle.vx_job.specs.Rows.{picked as rows_at};
+ghost use Rattle.vx_job.specs.Selections.{run_total};
 ghost use Rattle.vx_column.specs.Columns.{IsSound, rows_of, type_of, len_of, select_bound};
 ghost use Rattle.vx_column.specs.declared.column.Column.TheVariants.{Flat as flat_column};
 ghost use Rattle.vx_bulk.specs.Selections.{kept, picked, joined_runs, IsWithin, IsInside};
 ghost use Rattle.vx_bulk.specs.Types.{taken_type, nullable};
 ghost use Rattle.vx_select.specs.Chosen.{IsSelectionOf};
-ghost use Rattle.vx_select.specs.Causes.{FilterCause, TakeCause, RunsCause, run_total, run_places, present};
+ghost use Rattle.vx_select.specs.Causes.{FilterCause, TakeCause, RunsCause, run_places, present};
 ghost use Rattle.vx_select.specs.Spots.{AreBelow};
 
 use crate::gathering::gather;

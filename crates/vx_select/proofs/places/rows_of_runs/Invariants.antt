@@ -1,5 +1,5 @@
 use Rattle.std.proofs.Common.{◌≡◌, ◌^◌, ◌-◌, min, take}
-use Rattle.vx_select.specs.Causes.{run_total}
+use Rattle.vx_job.specs.Selections.{run_total}
 use Rattle.vx_select.proofs.places.rows_of_runs.Given as goal
 
 abbrev pub invariant-loop-run : goal.invariant-loop-run
