@@ -1,9 +1,11 @@
 //! Readers of what JSON forms are made of.
 ghost use Rattle.std.specs.Prelude.{◌≡◌, length, MatchOption};
+ghost use Rattle.std.specs.Prelude.{Option};
+ghost use Rattle.serde_json.specs.Data.{Data};
 ghost use Rattle.serde_json.specs.Find.{get, as_array, as_str, as_bool};
 ghost use Rattle.serde_json.specs.View.{view, items_view};
 ghost use Rattle.vx_json.specs.Forms.{Gives, has, object_of, whole_of as whole_spec, integer_of as integer_spec};
-ghost use Rattle.vx_json.specs.Forms.{list_of, pair_of};
+ghost use Rattle.vx_json.specs.Forms.{list_of, null_or, pair_of};
 
 use crate::reason::{Reason, Trail};
 use serde_json::Value;
@@ -148,18 +150,6 @@ pub fn integer_of(value: &Value, trail: &Trail<'_>) -> Result<i128, Unread>
     Err(Unread::NoForm(trail.is_no(value, "whole number from -2^63 to 2^64 - 1")))
 }
 
-/// A list of whole numbers.
-pub fn wholes_of(alloc: Global, value: &Value, trail: &Trail<'_>) -> Result<Seq<usize>, Unread>
-    ensures { Gives (λ v. v) result (list_of whole_spec (view value.now)) }
-{
-    let items = array_of(value, trail)?;
-    let mut numbers = Vec::with_capacity(alloc, items.len())?;
-    for item in items {
-        numbers.push(whole_of(item, &Trail::Item(trail, numbers.len()))?)?;
-    }
-    Ok(Seq::from_vec(numbers))
-}
-
 /// Two whole numbers.
 pub fn pair_of_wholes(value: &Value, trail: &Trail<'_>) -> Result<(usize, usize), Unread>
     ensures { Gives (λ p. p) result (pair_of whole_spec whole_spec (view value.now)) }
@@ -175,4 +165,75 @@ pub fn pair_of_wholes(value: &Value, trail: &Trail<'_>) -> Result<(usize, usize)
         )),
         _ => unreachable!(),
     }
+}
+
+/// What a list is made of, each item being read by itself.
+pub trait Item: Sized + Drop {
+    /// What a value is, where it is an item.
+    ghost form: { Data → Option Self };
+
+    fn read(alloc: Global, value: &Value, trail: &Trail<'_>) -> Result<Self, Unread>
+        ensures { Gives (λ x. x) result (form (view value.now)) };
+}
+
+impl Item for usize {
+    ghost form = { whole_spec };
+
+    fn read(_alloc: Global, value: &Value, trail: &Trail<'_>) -> Result<usize, Unread>
+        ensures { Gives (λ n. n) result (whole_spec (view value.now)) }
+    {
+        whole_of(value, trail)
+    }
+}
+
+impl Item for Option<usize> {
+    ghost form = { null_or whole_spec };
+
+    fn read(_alloc: Global, value: &Value, trail: &Trail<'_>) -> Result<Option<usize>, Unread>
+        ensures { Gives (λ o. o) result (null_or whole_spec (view value.now)) }
+    {
+        if value.is_null() {
+            return Ok(None);
+        }
+        Ok(Some(whole_of(value, trail)?))
+    }
+}
+
+impl Item for bool {
+    ghost form = { as_bool };
+
+    fn read(_alloc: Global, value: &Value, trail: &Trail<'_>) -> Result<bool, Unread>
+        ensures { Gives (λ b. b) result (as_bool (view value.now)) }
+    {
+        bool_of(value, trail)
+    }
+}
+
+impl Item for (usize, usize) {
+    ghost form = { pair_of whole_spec whole_spec };
+
+    fn read(_alloc: Global, value: &Value, trail: &Trail<'_>) -> Result<(usize, usize), Unread>
+        ensures { Gives (λ p. p) result (pair_of whole_spec whole_spec (view value.now)) }
+    {
+        pair_of_wholes(value, trail)
+    }
+}
+
+/// A list of items.
+pub fn items_of<T: Item>(alloc: Global, value: &Value, trail: &Trail<'_>) -> Result<Vec<T>, Unread>
+    ensures { Gives (λ v. v.items) result (list_of T.form (view value.now)) }
+{
+    let values = array_of(value, trail)?;
+    let mut items = Vec::with_capacity(alloc, values.len())?;
+    for item in values {
+        items.push(T::read(alloc, item, &Trail::Item(trail, items.len()))?)?;
+    }
+    Ok(items)
+}
+
+/// A list of items, which isn't changed any more.
+pub fn seq_of<T: Item>(alloc: Global, value: &Value, trail: &Trail<'_>) -> Result<Seq<T>, Unread>
+    ensures { Gives (λ s. s) result (list_of T.form (view value.now)) }
+{
+    Ok(Seq::from_vec(items_of(alloc, value, trail)?))
 }

@@ -5,7 +5,7 @@ ghost use Rattle.vx_json.specs.Forms.{Gives, list_of};
 ghost use Rattle.vx_json.specs.Steps as spec;
 
 use crate::forms::{
-    Unread, array_of, bool_of, field, has_field, has_keys, pair_of_wholes, wholes_of,
+    Item, Unread, bool_of, field, has_field, has_keys, items_of, pair_of_wholes, seq_of, whole_of,
 };
 use crate::reason::Trail;
 use serde_json::Value;
@@ -17,6 +17,9 @@ use vx_job::Step;
 pub enum StepTag {
     Slice,
     Points,
+    Filter,
+    Take,
+    Runs,
 }
 
 fn tag_of(value: &Value) -> Option<StepTag>
@@ -26,16 +29,22 @@ fn tag_of(value: &Value) -> Option<StepTag>
         Some(StepTag::Slice)
     } else if has_field(value, "points") {
         Some(StepTag::Points)
+    } else if has_field(value, "filter") {
+        Some(StepTag::Filter)
+    } else if has_field(value, "take") {
+        Some(StepTag::Take)
+    } else if has_field(value, "runs") {
+        Some(StepTag::Runs)
     } else {
         None
     }
 }
 
 /// The keys that name the forms of steps.
-const TAGS: [&str; 2] = ["slice", "points"];
+const TAGS: [&str; 5] = ["slice", "points", "filter", "take", "runs"];
 
 /// The keys that steps may have.
-const KEYS: [&str; 3] = ["slice", "points", "kept"];
+const KEYS: [&str; 7] = ["slice", "points", "kept", "filter", "take", "runs", "len"];
 
 #[tactic(auto, unfolding(crate::specs::Steps::slice_form))]
 fn slice_of(value: &Value, trail: &Trail<'_>) -> Result<Step, Unread>
@@ -54,9 +63,41 @@ fn points_of(alloc: Global, value: &Value, trail: &Trail<'_>) -> Result<Step, Un
     has_keys(value, &["points", "kept"], trail)?;
     let items = field(value, "points", trail)?;
     let flag = field(value, "kept", trail)?;
-    let rows = wholes_of(alloc, items, &Trail::Member(trail, "points"))?;
+    let rows = seq_of(alloc, items, &Trail::Member(trail, "points"))?;
     let kept = bool_of(flag, &Trail::Member(trail, "kept"))?;
     Ok(Step::Points { rows, kept })
+}
+
+#[tactic(auto, unfolding(crate::specs::Steps::filter_form))]
+fn filter_of(alloc: Global, value: &Value, trail: &Trail<'_>) -> Result<Step, Unread>
+    ensures { Gives (λ s. s) result (spec.filter_form (view value.now)) }
+{
+    has_keys(value, &["filter"], trail)?;
+    let items = field(value, "filter", trail)?;
+    let mask = seq_of(alloc, items, &Trail::Member(trail, "filter"))?;
+    Ok(Step::Filter { mask })
+}
+
+#[tactic(auto, unfolding(crate::specs::Steps::take_form))]
+fn take_of(alloc: Global, value: &Value, trail: &Trail<'_>) -> Result<Step, Unread>
+    ensures { Gives (λ s. s) result (spec.take_form (view value.now)) }
+{
+    has_keys(value, &["take"], trail)?;
+    let items = field(value, "take", trail)?;
+    let indices = seq_of(alloc, items, &Trail::Member(trail, "take"))?;
+    Ok(Step::Take { indices })
+}
+
+#[tactic(auto, unfolding(crate::specs::Steps::runs_form))]
+fn runs_of(alloc: Global, value: &Value, trail: &Trail<'_>) -> Result<Step, Unread>
+    ensures { Gives (λ s. s) result (spec.runs_form (view value.now)) }
+{
+    has_keys(value, &["runs", "len"], trail)?;
+    let items = field(value, "runs", trail)?;
+    let count = field(value, "len", trail)?;
+    let runs = seq_of(alloc, items, &Trail::Member(trail, "runs"))?;
+    let len = whole_of(count, &Trail::Member(trail, "len"))?;
+    Ok(Step::Runs { runs, len })
 }
 
 /// The step that a value is.
@@ -67,6 +108,19 @@ pub fn step_of(alloc: Global, value: &Value, trail: &Trail<'_>) -> Result<Step, 
         None => Err(Unread::NoForm(trail.untagged(value, &TAGS, &KEYS))),
         Some(StepTag::Slice) => slice_of(value, trail),
         Some(StepTag::Points) => points_of(alloc, value, trail),
+        Some(StepTag::Filter) => filter_of(alloc, value, trail),
+        Some(StepTag::Take) => take_of(alloc, value, trail),
+        Some(StepTag::Runs) => runs_of(alloc, value, trail),
+    }
+}
+
+impl Item for Step {
+    ghost form = { spec.step_of };
+
+    fn read(alloc: Global, value: &Value, trail: &Trail<'_>) -> Result<Step, Unread>
+        ensures { Gives (λ s. s) result (spec.step_of (view value.now)) }
+    {
+        step_of(alloc, value, trail)
     }
 }
 
@@ -74,10 +128,5 @@ pub fn step_of(alloc: Global, value: &Value, trail: &Trail<'_>) -> Result<Step, 
 pub fn steps_of(alloc: Global, value: &Value, trail: &Trail<'_>) -> Result<Vec<Step>, Unread>
     ensures { Gives (λ v. v.items) result (list_of spec.step_of (view value.now)) }
 {
-    let items = array_of(value, trail)?;
-    let mut steps = Vec::with_capacity(alloc, items.len())?;
-    for item in items {
-        steps.push(step_of(alloc, item, &Trail::Item(trail, steps.len()))?)?;
-    }
-    Ok(steps)
+    items_of(alloc, value, trail)
 }
