@@ -3,9 +3,9 @@
 
     python3 tools/random_jobs.py [--seed N] [--jobs N] [--program PATH | --tried]
 
-Each job has up to three part trees, well formed or with one thing changed that may break a rule, and a plan of slices and
-reads; one in twenty is changed in its form, so that it is no job. The script knows the rules of parts, the first fault and the
-rows of a part from docs/FORMAT.md alone: a row is looked up by recursion, each rule is one line, and nothing is searched or
+Each job has up to three part trees, well formed or with one thing changed that may break a rule, and a plan of any steps; one
+in twenty is changed in its form, so that it is no job. The script knows the rules of parts, the first fault, the rows of a part
+and the steps from docs/FORMAT.md alone: a row is looked up by recursion, each rule is one line, and nothing is searched or
 shared. Where several errors are true of a step, each of them is right. The script prints each job whose reply is wrong, and how
 often each kind of reply was met; it ends with 1 where a reply was wrong. The same seed makes the same jobs.
 
@@ -230,11 +230,70 @@ def first_fault(part):
     return None
 
 
-# ---- the right replies to a job
+# ---- steps over a column: a type, a number of rows, and what each row is
 
 
 def refusal(error, **fields):
     return {"error": error, **fields}
+
+
+Column = collections.namedtuple("Column", "dtype length row")
+
+
+def opened(part):
+    return Column(dtype_of(part), len_of(part), lambda i: row_of(part, i))
+
+
+def rows_at(column, numbers):
+    """The rows of these numbers, and a null where there is no number."""
+    return [None if i is None else column.row(i) for i in numbers]
+
+
+def of_rows(dtype, rows):
+    return Column(dtype, len(rows), rows.__getitem__)
+
+
+def outside(column, numbers):
+    """The errors of numbers that no row has."""
+    return [refusal("OutOfBounds", index=min(i, LAST), len=column.length) for i in numbers if i >= column.length]
+
+
+def mismatch(expected, found):
+    return [refusal("LengthMismatch", expected=expected, found=min(found, LAST))] if found != expected else []
+
+
+def errors(column, step):
+    """All errors that are true of a step."""
+    if "slice" in step:
+        start, end = step["slice"]
+        wrong = [refusal("BadRange", start=start, end=end)] if start > end else []
+        return wrong + ([refusal("OutOfBounds", index=end, len=column.length)] if end > column.length else [])
+    if "points" in step:
+        return outside(column, step["points"])
+    if "filter" in step:
+        return mismatch(column.length, len(step["filter"]))
+    if "take" in step:
+        return outside(column, [i for i in step["take"] if i is not None])
+    last_rows = [start + length - 1 for start, length in step["runs"] if length > 0]
+    return mismatch(step["len"], sum(length for _, length in step["runs"])) + outside(column, last_rows)
+
+
+def left(column, step):
+    """The column that a step leaves, of which no error is true."""
+    if "slice" in step:
+        start, end = step["slice"]
+        return Column(column.dtype, end - start, lambda i: column.row(start + i))
+    if "filter" in step:
+        return of_rows(column.dtype, rows_at(column, [i for i, flag in enumerate(step["filter"]) if flag]))
+    if "take" in step:
+        dtype = widened(column.dtype) if None in step["take"] else column.dtype
+        return of_rows(dtype, rows_at(column, step["take"]))
+    if "runs" in step:
+        return of_rows(column.dtype, [column.row(i) for start, length in step["runs"] for i in range(start, start + length)])
+    return column
+
+
+# ---- the right replies to a job
 
 
 def replies(job):
@@ -246,24 +305,15 @@ def replies(job):
             return [refusal("Malformed", at=at, rule=fault[1]) if fault[1] else refusal("Unsupported", at=at)]
     if not job["parts"]:
         return [refusal("UnknownColumn", number=0)]
-    part = job["parts"][0]
-    start, end, answers = 0, len_of(part), []
+    column, answers = opened(job["parts"][0]), []
     for step in job["plan"]:
-        length = end - start
-        if "slice" in step:
-            s, e = step["slice"]
-            wrong = [refusal("BadRange", start=s, end=e)] if s > e else []
-            if e > length:
-                wrong.append(refusal("OutOfBounds", index=e, len=length))
-            start, end = start + s, start + e
-        else:
-            wrong = [refusal("OutOfBounds", index=i, len=length) for i in step["points"] if i >= length]
-            if not wrong:
-                answers.append({"rows": [row_of(part, start + i) for i in step["points"]]})
+        wrong = errors(column, step)
         if wrong:
             return wrong
-    rows = [row_of(part, i) for i in range(start, end)]
-    return [{"answers": answers, "rows": rows, "type": dtype_of(part)}]
+        column = left(column, step)
+        if "points" in step:
+            answers.append({"rows": rows_at(column, step["points"])})
+    return [{"answers": answers, "rows": rows_at(column, range(column.length)), "type": column.dtype}]
 
 
 # ---- random jobs
@@ -413,21 +463,61 @@ def changed(rng, part):
             held[at] = min(high, max(low, held[at] + rng.choice((-1, 1, 2, 1024, -1024))))
 
 
+def random_slice(rng, length):
+    start = rng.choice((0, 0, 1, rng.randint(0, min(length, 2200)), length))
+    end = rng.choice((length, min(length, start + rng.randint(0, 9)), start, length - 1 if length else 0))
+    if rng.random() < 0.07:
+        end = rng.choice((0, min(length + 1, LAST), LAST))
+    return {"slice": [start, end]}, max(end - start, 0)
+
+
+def near_rows(rng, length, count):
+    """Numbers of rows, most of them near the front, and few that no row has."""
+    near = [rng.randrange(length) if rng.random() < 0.5 else rng.randrange(min(length, 20)) for _ in range(count) if length]
+    return near + ([rng.choice((length, LAST))] if rng.random() < 0.05 else [])
+
+
+def random_points(rng, length):
+    return {"points": near_rows(rng, length, rng.randint(0, 4)), "kept": rng.random() < 0.5}, length
+
+
+def random_filter(rng, length):
+    share = rng.choice((0, 0.1, 0.5, 0.9, 1))
+    count = length + (rng.choice((-1, 1)) if rng.random() < 0.05 else 0)
+    flags = [rng.random() < share for _ in range(max(count, 0))]
+    return {"filter": flags}, sum(flags)
+
+
+def random_take(rng, length):
+    indices = near_rows(rng, length, rng.choice((0, 1, 4, 9, 40)))
+    if rng.random() < 0.5:
+        indices.insert(rng.randint(0, len(indices)), None)
+    if rng.random() < 0.3:
+        indices.sort(key=lambda i: -1 if i is None else i)
+    return {"take": indices}, len(indices)
+
+
+def random_runs(rng, length):
+    starts = near_rows(rng, length, rng.randint(0, 5))
+    runs = [[start, rng.choice((0, 1, 3, rng.randint(0, 1200)))] for start in starts]
+    runs = [[start, min(count, length - start)] if start < length else [start, count] for start, count in runs]
+    if rng.random() < 0.2:
+        runs.insert(rng.randint(0, len(runs)), [rng.choice((0, length, LAST)), 0])
+    if rng.random() < 0.05:
+        runs.append([rng.choice((0, 1, length, LAST)), rng.choice((1, length, LAST))])
+    total = sum(count for _, count in runs)
+    count = min(total, LAST) if rng.random() < 0.95 else rng.choice((0, total // 2, LAST))
+    return {"runs": runs, "len": count}, min(total, LAST)
+
+
 def random_plan(rng, length):
     plan = []
-    for _ in range(rng.choice((0, 1, 1, 2, 3))):
-        if rng.random() < 0.5:
-            start = rng.choice((0, 0, 1, rng.randint(0, min(length, 2200)), length))
-            end = rng.choice((length, min(length, start + rng.randint(0, 9)), start, length - 1 if length else 0))
-            if rng.random() < 0.07:
-                end = rng.choice((0, min(length + 1, LAST), LAST))
-            plan.append({"slice": [start, end]})
-            length = max(end - start, 0)
-        else:
-            near = [rng.randrange(length) if rng.random() < 0.5 else rng.randrange(min(length, 20)) for _ in range(rng.randint(0, 4)) if length]
-            if rng.random() < 0.05:
-                near.append(rng.choice((length, LAST)))
-            plan.append({"points": near, "kept": rng.random() < 0.5})
+    for _ in range(rng.choice((0, 1, 1, 2, 3, 4))):
+        draws = [random_slice, random_slice, random_points, random_points, random_take, random_runs]
+        if length <= 3000:
+            draws += [random_filter, random_filter]
+        step, length = rng.choice(draws)(rng, length)
+        plan.append(step)
     if length > 3000:
         start = rng.randrange(min(length, 2200))
         plan.append({"slice": [start, start + rng.randint(0, min(9, length - start))]})

@@ -18,7 +18,7 @@ pub enum Scalar<'a> {
     Binary(&'a [u8]),
 }
 
-#[derive(Debug)]
+#[derive(Clone, Debug)]
 enum Values {
     Bool(Vec<bool>),
     Unsigned(Vec<u64>),
@@ -28,7 +28,7 @@ enum Values {
     Binary(Vec<Vec<u8>>),
 }
 
-#[derive(Debug)]
+#[derive(Clone, Debug)]
 pub struct Flat {
     pub dtype: DType,
     values: Values,

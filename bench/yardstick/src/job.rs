@@ -24,6 +24,17 @@ pub enum Step {
     Points {
         points: Vec<usize>,
     },
+    Filter {
+        flags: Vec<bool>,
+    },
+    Take {
+        indices: Vec<Option<usize>>,
+    },
+    /// Each run is a start and a length.
+    Runs {
+        runs: Vec<(usize, usize)>,
+        len: usize,
+    },
 }
 
 pub struct Job {
@@ -118,16 +129,35 @@ fn interleaved(json: &Value) -> Option<Part> {
     })
 }
 
+fn pair(json: &Value) -> Option<(usize, usize)> {
+    match json.as_array()?.as_slice() {
+        [first, second] => Some((whole(first)?, whole(second)?)),
+        _ => None,
+    }
+}
+
+fn whole_or_null(json: &Value) -> Option<Option<usize>> {
+    match json {
+        Value::Null => Some(None),
+        number => whole(number).map(Some),
+    }
+}
+
 fn step(json: &Value) -> Option<Step> {
     let map = json.as_object()?;
     if map.contains_key("slice") {
-        let map = object(json, 1)?;
-        let [start, end] = map.get("slice")?.as_array()?.as_slice() else {
-            return None;
-        };
-        return Some(Step::Slice { start: whole(start)?, end: whole(end)? });
+        let (start, end) = pair(object(json, 1)?.get("slice")?)?;
+        Some(Step::Slice { start, end })
+    } else if map.contains_key("points") {
+        let map = object(json, 2)?;
+        map.get("kept")?.as_bool()?;
+        Some(Step::Points { points: list(map, "points", whole)? })
+    } else if map.contains_key("filter") {
+        Some(Step::Filter { flags: list(object(json, 1)?, "filter", Value::as_bool)? })
+    } else if map.contains_key("take") {
+        Some(Step::Take { indices: list(object(json, 1)?, "take", whole_or_null)? })
+    } else {
+        let map = object(json, 2)?;
+        Some(Step::Runs { runs: list(map, "runs", pair)?, len: whole(map.get("len")?)? })
     }
-    let map = object(json, 2)?;
-    map.get("kept")?.as_bool()?;
-    Some(Step::Points { points: list(map, "points", whole)? })
 }

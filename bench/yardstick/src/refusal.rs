@@ -8,6 +8,7 @@ pub enum Refusal {
     Unsupported { at: Vec<usize> },
     BadRange { start: usize, end: usize },
     OutOfBounds { index: usize, len: usize },
+    LengthMismatch { expected: usize, found: usize },
 }
 
 impl Refusal {
@@ -23,6 +24,9 @@ impl Refusal {
             }
             Refusal::OutOfBounds { index, len } => {
                 json!({"error": "OutOfBounds", "index": index, "len": len})
+            }
+            Refusal::LengthMismatch { expected, found } => {
+                json!({"error": "LengthMismatch", "expected": expected, "found": found})
             }
         }
     }

@@ -18,8 +18,49 @@ fn spaces(alloc: Global, count: usize) -> Result<Vec<u8>, AllocError> {
     vec![in alloc; b' '; count]
 }
 
+/// A job of one part of chunks of so many rows each, row i being i, with this plan.
+fn ramp(alloc: Global, chunks: usize, rows: usize, plan: &str) -> Result<String, AllocError> {
+    let mut job = String::from_str(alloc, "{\"parts\":[{\"chunked\":\"i32\",\"chunks\":[")?;
+    let mut next = 0usize;
+    for chunk in 0..chunks {
+        job.push_str(if chunk == 0 { "" } else { "]}," })?;
+        job.push_str("{\"flat\":\"i32\",\"rows\":[")?;
+        push_numbers(&mut job, next, rows)?;
+        next = next.saturating_add(rows);
+    }
+    job.push_str(if chunks == 0 { "" } else { "]}" })?;
+    job.push_str("]}],\"plan\":")?;
+    job.push_str(plan)?;
+    job.push('}')?;
+    Ok(job)
+}
+
+/// Writes so many numbers from the first on, with commas between them.
+fn push_numbers(text: &mut String, first: usize, count: usize) -> Result<(), AllocError> {
+    for at in 0..count {
+        text.push_str(if at == 0 { "" } else { "," })?;
+        write!(text, "{}", first.saturating_add(at))?;
+    }
+    Ok(())
+}
+
+/// The job that a line behind `ramp` says.
+fn ramp_of(alloc: Global, line: &str) -> io::Result<Vec<u8>> {
+    let mut words = line.splitn(3, ' ');
+    let (Some(chunks), Some(rows), Some(plan)) = (words.next(), words.next(), words.next()) else {
+        return Err(io::Error::other("a ramp has two numbers and a plan"));
+    };
+    match (chunks.parse::<usize>(), rows.parse::<usize>()) {
+        (Ok(chunks), Ok(rows)) => Ok(ramp(alloc, chunks, rows, plan)?.into_bytes()),
+        _ => Err(io::Error::other("a count is no number")),
+    }
+}
+
 /// The bytes of the job that a line says.
 pub(crate) fn job_of(alloc: Global, line: &str) -> io::Result<Vec<u8>> {
+    if let Some(line) = line.strip_prefix("ramp ") {
+        return ramp_of(alloc, line);
+    }
     if let Some(count) = line.strip_prefix("spaces ") {
         return match count.parse::<usize>() {
             Ok(count) => Ok(spaces(alloc, count)?),

@@ -5,13 +5,17 @@
 //!
 //! - `words WORD ..` gives the words of the command line for the jobs below it in the same case;
 //! - `spaces N` is a job of so many spaces, and `hex DIGITS` one of these bytes;
+//! - `ramp CHUNKS ROWS PLAN` is a job of one part, so many chunks of so many rows each, where row i is i;
+//! - `counts JOB` is answered `the same` where a run of the job counts as many reads as its plan and its page;
 //! - `status NAME` is answered by the number and the words of the status of this name.
 #![tactic(auto)]
 
 mod asking;
+mod counting;
 mod statuses;
 
 use crate::asking::{answer, job_of, words_of};
+use crate::counting::compared;
 use crate::statuses::status_text;
 use std::io;
 use vx_cases::{Answer, Answers, run_cases};
@@ -29,6 +33,8 @@ impl Answers for JobCases {
             } else if let Some(name) = line.strip_prefix("status ") {
                 let text = status_text(alloc, name)?;
                 answers.push(Answer { text, reads: 0 })?;
+            } else if let Some(job) = line.strip_prefix("counts ") {
+                answers.push(compared(rt, job)?)?;
             } else {
                 let job = job_of(alloc, line)?;
                 answers.push(answer(rt, words.as_slice(), job)?)?;
