@@ -1,0 +1,4 @@
+pub mod Pairs
+pub mod Chunks
+pub mod Causes
+pub mod Laws
