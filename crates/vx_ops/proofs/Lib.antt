@@ -1,0 +1,5 @@
+pub mod Gains
+pub mod Masks
+pub mod Casts
+pub mod Truths
+pub mod LanesCompared
