@@ -1,6 +1,6 @@
 -- From the first column to the parts.
 use Rattle.std.proofs.Common.{◌≡◌, ◌⊎◌, inl, inr, ℕ, ◌+◌, ◌*◌, ◌≤◌, ◌<◌, List, [], ◌∷◌, map, length, get_or, sym, ◌∙◌, ap, subst, arith}
-use Rattle.std.specs.List.{All}
+use Rattle.std.specs.List.{All, AllByRecursion}
 use Rattle.std.proofs.Math.Nat.{mul-le-mul_left}
 use Rattle.std.proofs.lemmas.List.Elements.{All-from_recursion}
 use Rattle.vx_rows.specs.declared.dtype.DType.{DType}
@@ -37,6 +37,17 @@ first_of ps qs cs ds es x y p o some d e at same =
 pub first_sound : (ps : List Part) (cs : List Column) (x : Column) → IsFirst ps cs x → IsSound x
 first_sound [] cs x f = absurd f
 first_sound (p ∷ ps) cs x f = f.1.sound
+
+opened_sound : (ps : List Part) (cs : List Column) → AreOpened ps cs → AllByRecursion IsSound cs
+opened_sound [] [] o = tt
+opened_sound [] (c ∷ cs) o = absurd o
+opened_sound (p ∷ ps) [] o = absurd o
+opened_sound (p ∷ ps) (c ∷ cs) o = (o.0.sound, opened_sound ps cs o.1)
+
+-- each column that was opened is sound
+pub sources_sound : (ps : List Part) (cs : List Column) (x : Column) → IsFirst ps cs x → All IsSound cs
+sources_sound [] cs x f = absurd f
+sources_sound (p ∷ ps) cs x f = All-from_recursion IsSound cs (opened_sound (p ∷ ps) cs f.0)
 
 clean_all : (ps : List Part) (cs : List Column) → AreOpened ps cs → All IsClean ps
 clean_all ps cs o = All-from_recursion IsClean ps (parts_clean ps cs o)

@@ -2,6 +2,7 @@
 #![tactic(auto)]
 
 pub mod answers;
+mod elementwise;
 pub mod open;
 pub mod run;
 mod selections;

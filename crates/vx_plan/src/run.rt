@@ -13,6 +13,7 @@ ghost use Rattle.vx_job.specs.declared.page.Answer.TheVariants.{Rows as answer_r
 ghost use Rattle.vx_plan.specs.AnswersView.{CostsNoMore};
 
 use crate::answers::Answers;
+use crate::elementwise::{cast, compare, fill, mask, zip};
 use crate::open::open_parts;
 use crate::selections::{filter, join_runs, take};
 use std::alloc::Global;
@@ -52,7 +53,8 @@ fn run_steps<L: Ledger>(
     plan: &[Step],
     steps: &mut Steps<L>,
 ) -> Res<Answers>
-    requires { IsSound first }
+    requires sound { IsSound first }
+    requires sources { All IsSound sources.now }
     ensures ok { IfOk result (λ a. RunsTo (map flat_of sources.now) 0 (flat_of first) plan.now a.answers (flat_of a.column)) }
     ensures err { IfErr result (λ e. (e ≡ ColumnError.OutOfMemory)
         ⊎ StopsWith (map flat_of sources.now) 0 (flat_of first) plan.now e) }
@@ -81,7 +83,8 @@ fn take_step<L: Ledger>(
     answers: &mut Vec<Answer>,
     steps: &mut Steps<L>,
 ) -> Res<Option<Column>>
-    requires { IsSound column.now }
+    requires sound { IsSound column.now }
+    requires sources { All IsSound sources.now }
     ensures free { OnOk result (IsFree (map flat_of sources.now) number (flat_of column.now) step.now) }
     ensures sound { IfOk result (λ next. IsSound (unwrap_or next column.now)) }
     ensures left { IfOk result (λ next. flat_of (unwrap_or next column.now)
@@ -105,6 +108,17 @@ fn take_step<L: Ledger>(
         Step::Take { indices } => Ok(Some(take(alloc, column, indices.as_slice(), steps)?)),
         Step::Runs { runs, len } => {
             let next = join_runs(alloc, column, runs.as_slice(), *len, steps)?;
+            Ok(Some(next))
+        }
+        Step::Mask { mask: keep } => Ok(Some(mask(alloc, column, keep.as_slice(), steps)?)),
+        Step::Zip { source, choice } => {
+            let next = zip(alloc, column, sources, *source, choice.as_slice(), steps)?;
+            Ok(Some(next))
+        }
+        Step::Fill { value } => Ok(Some(fill(alloc, number, column, value, steps)?)),
+        Step::Cast { target } => Ok(Some(cast(alloc, number, column, target, steps)?)),
+        Step::Compare { operator, value } => {
+            let next = compare(alloc, number, column, *operator, value, steps)?;
             Ok(Some(next))
         }
     }

@@ -7,7 +7,7 @@ use Rattle.vx_job.specs.Parts.{PartsCause, open_cost}
 use Rattle.vx_job.specs.Plans.{RunsTo, StopsWith, Reaches, IsPlanError, rows_bound}
 use Rattle.vx_plan.specs.AnswersView.{CostsNoMore}
 use Rattle.vx_plan.proofs.Opened.{opened_length}
-use Rattle.vx_plan.proofs.Headline.{first_of, first_sound, first_reaches, first_error, first_bounded, first_bound, open_bound, first_plain, first_is_plain, first_select, parts_error, only_memory}
+use Rattle.vx_plan.proofs.Headline.{first_of, first_sound, sources_sound, first_reaches, first_error, first_bounded, first_bound, open_bound, first_plain, first_is_plain, first_select, parts_error, only_memory}
 use Rattle.vx_plan.proofs.run.run_plan.Goals as goal
 
 -- ---- the parts aren't opened
@@ -34,8 +34,13 @@ pub bounds-as_slice-0 : goal.bounds-as_slice-0
 bounds-as_slice-0 g c =
     omega (arith, c.in_ok-columns.ensures.some, opened_length c.as_slice.result.now c.in_ok-columns.columns.items c.in_ok-columns.ensures.ok, ap length c.as_slice-2.ensures.value)
 
-pub run_steps-requires : goal.run_steps-requires
-run_steps-requires g c = first_sound c.args.parts.items c.as_slice-3.result.now c.in_ok-first.first
+pub run_steps-requires-sound : goal.run_steps-requires-sound
+run_steps-requires-sound g c = first_sound c.args.parts.items c.as_slice-3.result.now c.in_ok-first.first
+    (first_of c.args.parts.items c.as_slice.result.now c.in_ok-columns.columns.items c.as_slice-2.result.now c.as_slice-3.result.now c.index-as_slice-0.result c.in_ok-first.first c.as_slice.ensures.value
+    c.in_ok-columns.ensures.ok c.in_ok-columns.ensures.some c.as_slice-2.ensures.value c.as_slice-3.ensures.value c.index-as_slice-0.is c.in_ok-first.ensures.ok)
+
+pub run_steps-requires-sources : goal.run_steps-requires-sources
+run_steps-requires-sources g c = sources_sound c.args.parts.items c.as_slice-3.result.now c.in_ok-first.first
     (first_of c.args.parts.items c.as_slice.result.now c.in_ok-columns.columns.items c.as_slice-2.result.now c.as_slice-3.result.now c.index-as_slice-0.result c.in_ok-first.first c.as_slice.ensures.value
     c.in_ok-columns.ensures.ok c.in_ok-columns.ensures.some c.as_slice-2.ensures.value c.as_slice-3.ensures.value c.index-as_slice-0.is c.in_ok-first.ensures.ok)
 
