@@ -11,7 +11,7 @@ use Rattle.serde_json.specs.Data.{depth, items_depth, members_depth}
 use Rattle.serde_json.specs.Find.{get, get_member, as_array}
 use Rattle.serde_json.specs.View.{view, items_view}
 use Rattle.serde_json.specs.declared.value.Value.{Value}
-use Rattle.vx_json.specs.Forms.{◌>>=◌, all_items, list_of}
+use Rattle.vx_json_rows.specs.Forms.{◌>>=◌, all_items, list_of}
 use Rattle.vx_json.specs.Parts.{tag_of, part_by, part_of, parts_of, all_parts, part_in, parts_in}
 use Rattle.vx_json.specs.Parts.{part_under, parts_under}
 

@@ -3,7 +3,7 @@ use Rattle.std.specs.Prelude.{codes, Option, Some}
 use Rattle.serde_json.specs.Data.{Data}
 use Rattle.serde_json.specs.Find.{get}
 use Rattle.vx_job.specs.JobView.{JobView}
-use Rattle.vx_json.specs.Forms.{◌>>=◌, object_of, list_of}
+use Rattle.vx_json_rows.specs.Forms.{◌>>=◌, object_of, list_of}
 use Rattle.vx_json.specs.Parts.{part_of}
 use Rattle.vx_json.specs.Steps.{step_of}
 

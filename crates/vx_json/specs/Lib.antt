@@ -1,9 +1,4 @@
-pub mod Forms
-pub mod Types
-pub mod Texts
-pub mod Rows
 pub mod Parts
 pub mod Steps
 pub mod Job
-pub mod Packed
 pub mod Bytes

@@ -5,34 +5,13 @@ use Rattle.std.specs.Ordering.{nat_cmp, match_ordering}
 use Rattle.serde_json.specs.Data.{Data, null, boolean, number, string, array, object}
 use Rattle.serde_json.specs.Data.{Items, no_items, item, Members, no_members, member}
 use Rattle.serde_json.specs.Find.{get}
-use Rattle.vx_rows.specs.Fits.{rows_fit}
-use Rattle.vx_rows.specs.declared.dtype.DType.{DType}
-use Rattle.vx_rows.specs.declared.value.Value.{Value}
-use Rattle.vx_base.specs.Column.{Flat as FlatRows, flat}
 use Rattle.vx_job.specs.declared.part.Part.{Part, Flat, Constant, Chunked, Lanes, Excepted, Interleaved}
 use Rattle.vx_json.specs.declared.parts.Tag.{Tag}
 use Rattle.vx_json.specs.declared.parts.Tag.TheVariants as tag
-use Rattle.vx_json.specs.Forms.{◌>>=◌, has, object_of, list_of, whole_of, null_or}
-use Rattle.vx_json.specs.Types.{type_of}
-use Rattle.vx_json.specs.Rows.{row_of, fitted_row}
-
--- rows of a type, where each fits
-abbrev pub fitted : DType → List (Option Value) → Option FlatRows
-fitted t rows = if rows_fit t rows then Some (flat t rows) else None
-
--- a list of rows of a type, where each fits
-abbrev pub fitted_rows : DType → Data → Option FlatRows
-fitted_rows t d = list_of (row_of t) d >>= fitted t
-
--- `{"flat":T,"rows":[row]}`
-unfoldable pub flat_form : Data → Option FlatRows
-flat_form d = do
-  len ← object_of 2 d
-  kind ← get (codes "flat") d
-  items ← get (codes "rows") d
-  t ← type_of kind
-  rows ← list_of (row_of t) items
-  fitted t rows
+use Rattle.vx_json_rows.specs.Forms.{◌>>=◌, has, object_of, list_of, whole_of, null_or}
+use Rattle.vx_json_rows.specs.Types.{type_of}
+use Rattle.vx_json_rows.specs.Rows.{row_of, fitted_row}
+use Rattle.vx_json_rows.specs.Flat.{flat_form}
 
 -- `{"constant":T,"row":row,"len":n}`
 unfoldable pub constant_form : Data → Option Part

@@ -6,7 +6,7 @@ use Rattle.vx_job.specs.declared.step.Step.{Step}
 use Rattle.vx_job.specs.declared.step.Step.TheVariants.{Slice, Points, Filter, Take, Runs}
 use Rattle.vx_json.specs.declared.steps.StepTag.{StepTag}
 use Rattle.vx_json.specs.declared.steps.StepTag.TheVariants as tag
-use Rattle.vx_json.specs.Forms.{◌>>=◌, has, object_of, list_of, null_or, pair_of, whole_of}
+use Rattle.vx_json_rows.specs.Forms.{◌>>=◌, has, object_of, list_of, null_or, pair_of, whole_of}
 
 -- `{"slice":[start,end]}`
 unfoldable pub slice_form : Data → Option Step

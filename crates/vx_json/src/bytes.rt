@@ -5,10 +5,10 @@ ghost use Rattle.vx_json.specs.Bytes.{IsJobOf, HasNoJob, IsJsonOf, HasNoJson};
 ghost use Rattle.serde_json.specs.View.{view};
 
 use crate::job::{job_of, read_value};
-use crate::reason::Reason;
 use serde_json::Value;
 use std::alloc::Global;
 use vx_job::Job;
+use vx_json_rows::Reason;
 use vx_rows::{ColumnError, Res};
 
 /// The JSON that the bytes are, or why they are none.

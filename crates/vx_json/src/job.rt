@@ -2,17 +2,17 @@
 ghost use Rattle.std.specs.Prelude.{◌≡◌, IfOk, IsOkUnless, option_map};
 ghost use Rattle.std.specs.Result.{result_ok};
 ghost use Rattle.serde_json.specs.View.{view};
-ghost use Rattle.vx_json.specs.Forms.{Gives};
+ghost use Rattle.vx_json_rows.specs.Forms.{Gives};
 ghost use Rattle.vx_job.specs.JobView.{job_view};
 ghost use Rattle.vx_json.specs.Job.{job_of as job_spec};
 
-use crate::forms::{Unread, field, has_keys};
 use crate::parts::parts_of;
-use crate::reason::{Reason, Trail};
 use crate::steps::steps_of;
 use serde_json::Value;
 use std::alloc::Global;
 use vx_job::Job;
+use vx_json_rows::forms::{field, has_keys};
+use vx_json_rows::{Reason, Trail, Unread};
 use vx_rows::{ColumnError, Res};
 
 #[tactic(auto, unfolding(crate::specs::Job::job_of))]

@@ -1,18 +1,18 @@
 //! Parts out of JSON.
 ghost use Rattle.std.specs.Prelude.{◌≡◌};
 ghost use Rattle.serde_json.specs.View.{view};
-ghost use Rattle.vx_json.specs.Forms.{Gives, list_of, null_or};
+ghost use Rattle.vx_json_rows.specs.Forms.{Gives, list_of};
 ghost use Rattle.vx_json.specs.Parts as spec;
 
-use crate::forms::{Unread, array_of, field, has_field, has_keys, whole_of};
-use crate::reason::Trail;
-use crate::rows::{check_row, row_of, rows_of};
-use crate::types::type_of;
 use serde_json::Value;
 use std::alloc::Global;
-use vx_base::FlatColumn;
 use vx_job::{Boxed, Part};
-use vx_rows::{DType, Seq};
+use vx_json_rows::flat::{flat_of, flat_or_null};
+use vx_json_rows::forms::{array_of, field, has_field, has_keys, whole_of};
+use vx_json_rows::rows::{check_row, row_of};
+use vx_json_rows::types::type_of;
+use vx_json_rows::{Trail, Unread};
+use vx_rows::Seq;
 
 /// The forms of parts, each known by a key that no other has.
 #[derive(Clone, Copy, Debug, PartialEq, Eq, Drop)]
@@ -76,48 +76,6 @@ const KEYS: [&str; 18] = [
     "array_indices",
     "row_indices",
 ];
-
-/// Flat rows of a type, of which each has to fit it.
-fn column_of(
-    alloc: Global,
-    dtype: DType,
-    items: &Value,
-    trail: &Trail<'_>,
-) -> Result<FlatColumn, Unread>
-    ensures { Gives (λ c. c) result (spec.fitted_rows dtype (view items.now)) }
-{
-    let rows = rows_of(alloc, &dtype, items, trail)?;
-    match FlatColumn::from_buffer(alloc, dtype, rows) {
-        Ok(column) => Ok(column),
-        Err(_) => Err(Unread::OutOfMemory),
-    }
-}
-
-/// Flat rows, of which each has to fit the type.
-#[tactic(auto, unfolding(crate::specs::Parts::flat_form))]
-pub fn flat_of(alloc: Global, value: &Value, trail: &Trail<'_>) -> Result<FlatColumn, Unread>
-    ensures { Gives (λ c. c) result (spec.flat_form (view value.now)) }
-{
-    has_keys(value, &["flat", "rows"], trail)?;
-    let kind = field(value, "flat", trail)?;
-    let items = field(value, "rows", trail)?;
-    let dtype = type_of(kind, &Trail::Member(trail, "flat"))?;
-    column_of(alloc, dtype, items, &Trail::Member(trail, "rows"))
-}
-
-/// Flat rows, or `null` where there are none.
-fn flat_or_null(
-    alloc: Global,
-    value: &Value,
-    trail: &Trail<'_>,
-) -> Result<Option<FlatColumn>, Unread>
-    ensures { Gives (λ c. c) result (null_or spec.flat_form (view value.now)) }
-{
-    if value.is_null() {
-        return Ok(None);
-    }
-    Ok(Some(flat_of(alloc, value, trail)?))
-}
 
 #[tactic(auto, unfolding(crate::specs::Parts::constant_form))]
 fn constant_of(alloc: Global, value: &Value, trail: &Trail<'_>) -> Result<Part, Unread>

@@ -1,16 +1,16 @@
 //! Steps out of JSON.
 ghost use Rattle.std.specs.Prelude.{◌≡◌};
 ghost use Rattle.serde_json.specs.View.{view};
-ghost use Rattle.vx_json.specs.Forms.{Gives, list_of};
+ghost use Rattle.vx_json_rows.specs.Forms.{Gives, list_of};
 ghost use Rattle.vx_json.specs.Steps as spec;
 
-use crate::forms::{
-    Item, Unread, bool_of, field, has_field, has_keys, items_of, pair_of_wholes, seq_of, whole_of,
-};
-use crate::reason::Trail;
 use serde_json::Value;
 use std::alloc::Global;
 use vx_job::Step;
+use vx_json_rows::forms::{
+    Item, bool_of, field, has_field, has_keys, items_of, pair_of_wholes, seq_of, whole_of,
+};
+use vx_json_rows::{Trail, Unread};
 
 /// The forms of steps, each known by a key that no other has.
 #[derive(Clone, Copy, Debug, PartialEq, Eq, Drop)]

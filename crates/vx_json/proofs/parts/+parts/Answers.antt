@@ -2,7 +2,7 @@ use Rattle.std.proofs.Common.{Some, ap, sym, ◌∙◌, arith}
 use Rattle.std.proofs.lemmas.Result.{err_from_is_err_and}
 use Rattle.serde_json.specs.View.{view, items_view}
 use Rattle.vx_json.proofs.Members.{member_depth, item_depth}
-use Rattle.vx_json.proofs.Readings.{all_items-next, list_fails}
+use Rattle.vx_json_rows.proofs.Readings.{all_items-next, list_fails}
 use Rattle.vx_json.specs.Parts.{part_of}
 use Rattle.vx_json.proofs.parts.+parts.Goals as goal
 

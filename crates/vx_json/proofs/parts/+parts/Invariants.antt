@@ -1,7 +1,7 @@
 use Rattle.std.proofs.Common.{◌≡◌, ◌+◌, ◌*◌, Some, take}
 use Rattle.serde_json.specs.Data.{depth}
 use Rattle.serde_json.specs.View.{view, items_view}
-use Rattle.vx_json.specs.Forms.{all_items}
+use Rattle.vx_json_rows.specs.Forms.{all_items}
 use Rattle.vx_json.specs.Parts.{part_of}
 use Rattle.vx_json.proofs.parts.+parts.Given as goal
 

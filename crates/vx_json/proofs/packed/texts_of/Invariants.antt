@@ -1,9 +1,0 @@
-use Rattle.std.proofs.Common.{◌≡◌, take, Some}
-use Rattle.serde_json.specs.View.{items_view}
-use Rattle.vx_buffers.specs.Stores.{text_rows}
-use Rattle.vx_json.specs.Forms.{all_items}
-use Rattle.vx_json.specs.Packed.{text_row}
-use Rattle.vx_json.proofs.packed.texts_of.Given as goal
-
-abbrev pub invariant-loop-item : goal.invariant-loop-item
-invariant-loop-item l = all_items (text_row l.kind.null_fits) (items_view (take l.item-index l.item-items)) ≡ Some (text_rows l.texts)

@@ -1,0 +1,4 @@
+pub mod Readings
+pub mod Numerals
+pub mod Fitted
+pub mod Alike

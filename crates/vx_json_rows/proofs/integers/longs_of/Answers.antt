@@ -1,0 +1,21 @@
+use Rattle.std.proofs.Common.{pos, Some, ap, sym, ◌∙◌}
+use Rattle.std.proofs.lemmas.Result.{err_from_is_err_and}
+use Rattle.serde_json.specs.View.{items_view}
+use Rattle.vx_json_rows.specs.Packed.{ranged_row}
+use Rattle.vx_json_rows.proofs.Readings.{all_items-grown, list_fails}
+use Rattle.vx_json_rows.proofs.integers.longs_of.Goals as goal
+
+pub returns-in_err-push_long : goal.returns-in_err-push_long
+returns-in_err-push_long c =
+    let p = err_from_is_err_and c.from_residual-in_err-push_long.result
+    c.from_residual-in_err-push_long.ensures.1 in
+    rw (p.1, p.2) (list_fails (ranged_row (pos 0, pos 18446744073709551615) c.args.kind.null_fits) _ c.deref-item-items.result.now c.loop-item.item-index
+    c.item-item.result _
+    (c.in_ok-items.ensures ∙ ap (λ vs. Some (items_view vs)) (sym c.deref-item-items.ensures.value))
+    c.loop-item-test.true c.item-item.is c.in_err-push_long.ensures)
+
+pub loop-item-preserved : goal.loop-item-preserved
+loop-item-preserved c =
+    all_items-grown (ranged_row (pos 0, pos 18446744073709551615) c.args.kind.null_fits) c.deref-item-items.result.now
+    c.loop-item.item-index c.item-item.result _ _ c.loop-item-test.true c.item-item.is c.loop-item.invariant
+    c.in_ok-push_long.ensures

@@ -1,0 +1,7 @@
+pub mod Forms
+pub mod Types
+pub mod Texts
+pub mod Rows
+pub mod Packed
+pub mod Flat
+pub mod Scalars
