@@ -4,7 +4,8 @@ use std::alloc::Global;
 use std::io;
 use vx_base::DType;
 use vx_job::Part;
-use vx_json::{Trail, parts, types};
+use vx_json::parts;
+use vx_json_rows::{Trail, types};
 
 /// The part that a value says.
 pub(crate) fn part_of(alloc: Global, value: &Value) -> io::Result<Part> {

@@ -3,10 +3,12 @@ use Rattle.std.specs.Prelude.{codes, if◌then◌else◌, Option, Some, None}
 use Rattle.serde_json.specs.Data.{Data}
 use Rattle.serde_json.specs.Find.{get, as_bool}
 use Rattle.vx_job.specs.declared.step.Step.{Step}
-use Rattle.vx_job.specs.declared.step.Step.TheVariants.{Slice, Points, Filter, Take, Runs}
+use Rattle.vx_job.specs.declared.step.Step.TheVariants.{Slice, Points, Filter, Take, Runs, Mask, Zip, Fill, Cast, Compare}
 use Rattle.vx_json.specs.declared.steps.StepTag.{StepTag}
 use Rattle.vx_json.specs.declared.steps.StepTag.TheVariants as tag
 use Rattle.vx_json_rows.specs.Forms.{◌>>=◌, has, object_of, list_of, null_or, pair_of, whole_of}
+use Rattle.vx_json_rows.specs.Types.{type_of}
+use Rattle.vx_json_rows.specs.Scalars.{scalar_form, operator_of}
 
 -- `{"slice":[start,end]}`
 unfoldable pub slice_form : Data → Option Step
@@ -52,6 +54,50 @@ runs_form d = do
   n ← whole_of count
   Some (Runs runs n)
 
+-- `{"mask":[b]}`
+unfoldable pub mask_form : Data → Option Step
+mask_form d = do
+  len ← object_of 1 d
+  items ← get (codes "mask") d
+  mask ← list_of as_bool items
+  Some (Mask mask)
+
+-- `{"zip":source,"choice":[b]}`
+unfoldable pub zip_form : Data → Option Step
+zip_form d = do
+  len ← object_of 2 d
+  number ← get (codes "zip") d
+  items ← get (codes "choice") d
+  source ← whole_of number
+  choice ← list_of as_bool items
+  Some (Zip source choice)
+
+-- `{"fill":V}`, where V is `{"type":T,"row":row}`
+unfoldable pub fill_form : Data → Option Step
+fill_form d = do
+  len ← object_of 1 d
+  item ← get (codes "fill") d
+  value ← scalar_form item
+  Some (Fill value)
+
+-- `{"cast":T}`
+unfoldable pub cast_form : Data → Option Step
+cast_form d = do
+  len ← object_of 1 d
+  kind ← get (codes "cast") d
+  target ← type_of kind
+  Some (Cast target)
+
+-- `{"compare":op,"value":V}`
+unfoldable pub compare_form : Data → Option Step
+compare_form d = do
+  len ← object_of 2 d
+  name ← get (codes "compare") d
+  item ← get (codes "value") d
+  operator ← operator_of name
+  value ← scalar_form item
+  Some (Compare operator value)
+
 -- which form the value's keys name
 abbrev pub tag_of : Data → Option StepTag
 tag_of d =
@@ -59,7 +105,12 @@ tag_of d =
     if has (codes "points") d then Some tag.Points else (
     if has (codes "filter") d then Some tag.Filter else (
     if has (codes "take") d then Some tag.Take else (
-    if has (codes "runs") d then Some tag.Runs else None))))
+    if has (codes "runs") d then Some tag.Runs else (
+    if has (codes "mask") d then Some tag.Mask else (
+    if has (codes "zip") d then Some tag.Zip else (
+    if has (codes "fill") d then Some tag.Fill else (
+    if has (codes "cast") d then Some tag.Cast else (
+    if has (codes "compare") d then Some tag.Compare else None)))))))))
 
 -- a value of that form
 abbrev pub step_by : Option StepTag → Data → Option Step
@@ -69,6 +120,11 @@ step_by (Some tag.Points) d = points_form d
 step_by (Some tag.Filter) d = filter_form d
 step_by (Some tag.Take) d = take_form d
 step_by (Some tag.Runs) d = runs_form d
+step_by (Some tag.Mask) d = mask_form d
+step_by (Some tag.Zip) d = zip_form d
+step_by (Some tag.Fill) d = fill_form d
+step_by (Some tag.Cast) d = cast_form d
+step_by (Some tag.Compare) d = compare_form d
 
 abbrev pub step_of : Data → Option Step
 step_of d = step_by (tag_of d) d

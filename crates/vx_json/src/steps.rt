@@ -10,6 +10,8 @@ use vx_job::Step;
 use vx_json_rows::forms::{
     Item, bool_of, field, has_field, has_keys, items_of, pair_of_wholes, seq_of, whole_of,
 };
+use vx_json_rows::scalars::{operator_of, scalar_of};
+use vx_json_rows::types::type_of;
 use vx_json_rows::{Trail, Unread};
 
 /// The forms of steps, each known by a key that no other has.
@@ -20,6 +22,11 @@ pub enum StepTag {
     Filter,
     Take,
     Runs,
+    Mask,
+    Zip,
+    Fill,
+    Cast,
+    Compare,
 }
 
 fn tag_of(value: &Value) -> Option<StepTag>
@@ -35,16 +42,31 @@ fn tag_of(value: &Value) -> Option<StepTag>
         Some(StepTag::Take)
     } else if has_field(value, "runs") {
         Some(StepTag::Runs)
+    } else if has_field(value, "mask") {
+        Some(StepTag::Mask)
+    } else if has_field(value, "zip") {
+        Some(StepTag::Zip)
+    } else if has_field(value, "fill") {
+        Some(StepTag::Fill)
+    } else if has_field(value, "cast") {
+        Some(StepTag::Cast)
+    } else if has_field(value, "compare") {
+        Some(StepTag::Compare)
     } else {
         None
     }
 }
 
 /// The keys that name the forms of steps.
-const TAGS: [&str; 5] = ["slice", "points", "filter", "take", "runs"];
+const TAGS: [&str; 10] = [
+    "slice", "points", "filter", "take", "runs", "mask", "zip", "fill", "cast", "compare",
+];
 
 /// The keys that steps may have.
-const KEYS: [&str; 7] = ["slice", "points", "kept", "filter", "take", "runs", "len"];
+const KEYS: [&str; 14] = [
+    "slice", "points", "kept", "filter", "take", "runs", "len", "mask", "zip", "choice", "fill",
+    "cast", "compare", "value",
+];
 
 #[tactic(auto, unfolding(crate::specs::Steps::slice_form))]
 fn slice_of(value: &Value, trail: &Trail<'_>) -> Result<Step, Unread>
@@ -100,6 +122,60 @@ fn runs_of(alloc: Global, value: &Value, trail: &Trail<'_>) -> Result<Step, Unre
     Ok(Step::Runs { runs, len })
 }
 
+#[tactic(auto, unfolding(crate::specs::Steps::mask_form))]
+fn mask_of(alloc: Global, value: &Value, trail: &Trail<'_>) -> Result<Step, Unread>
+    ensures { Gives (λ s. s) result (spec.mask_form (view value.now)) }
+{
+    has_keys(value, &["mask"], trail)?;
+    let items = field(value, "mask", trail)?;
+    let mask = seq_of(alloc, items, &Trail::Member(trail, "mask"))?;
+    Ok(Step::Mask { mask })
+}
+
+#[tactic(auto, unfolding(crate::specs::Steps::zip_form))]
+fn zip_of(alloc: Global, value: &Value, trail: &Trail<'_>) -> Result<Step, Unread>
+    ensures { Gives (λ s. s) result (spec.zip_form (view value.now)) }
+{
+    has_keys(value, &["zip", "choice"], trail)?;
+    let number = field(value, "zip", trail)?;
+    let items = field(value, "choice", trail)?;
+    let source = whole_of(number, &Trail::Member(trail, "zip"))?;
+    let choice = seq_of(alloc, items, &Trail::Member(trail, "choice"))?;
+    Ok(Step::Zip { source, choice })
+}
+
+#[tactic(auto, unfolding(crate::specs::Steps::fill_form))]
+fn fill_of(alloc: Global, value: &Value, trail: &Trail<'_>) -> Result<Step, Unread>
+    ensures { Gives (λ s. s) result (spec.fill_form (view value.now)) }
+{
+    has_keys(value, &["fill"], trail)?;
+    let item = field(value, "fill", trail)?;
+    let value = scalar_of(alloc, item, &Trail::Member(trail, "fill"))?;
+    Ok(Step::Fill { value })
+}
+
+#[tactic(auto, unfolding(crate::specs::Steps::cast_form))]
+fn cast_of(value: &Value, trail: &Trail<'_>) -> Result<Step, Unread>
+    ensures { Gives (λ s. s) result (spec.cast_form (view value.now)) }
+{
+    has_keys(value, &["cast"], trail)?;
+    let kind = field(value, "cast", trail)?;
+    let target = type_of(kind, &Trail::Member(trail, "cast"))?;
+    Ok(Step::Cast { target })
+}
+
+#[tactic(auto, unfolding(crate::specs::Steps::compare_form))]
+fn compare_of(alloc: Global, value: &Value, trail: &Trail<'_>) -> Result<Step, Unread>
+    ensures { Gives (λ s. s) result (spec.compare_form (view value.now)) }
+{
+    has_keys(value, &["compare", "value"], trail)?;
+    let name = field(value, "compare", trail)?;
+    let item = field(value, "value", trail)?;
+    let operator = operator_of(name, &Trail::Member(trail, "compare"))?;
+    let value = scalar_of(alloc, item, &Trail::Member(trail, "value"))?;
+    Ok(Step::Compare { operator, value })
+}
+
 /// The step that a value is.
 pub fn step_of(alloc: Global, value: &Value, trail: &Trail<'_>) -> Result<Step, Unread>
     ensures { Gives (λ s. s) result (spec.step_of (view value.now)) }
@@ -111,6 +187,11 @@ pub fn step_of(alloc: Global, value: &Value, trail: &Trail<'_>) -> Result<Step, 
         Some(StepTag::Filter) => filter_of(alloc, value, trail),
         Some(StepTag::Take) => take_of(alloc, value, trail),
         Some(StepTag::Runs) => runs_of(alloc, value, trail),
+        Some(StepTag::Mask) => mask_of(alloc, value, trail),
+        Some(StepTag::Zip) => zip_of(alloc, value, trail),
+        Some(StepTag::Fill) => fill_of(alloc, value, trail),
+        Some(StepTag::Cast) => cast_of(value, trail),
+        Some(StepTag::Compare) => compare_of(alloc, value, trail),
     }
 }
 

@@ -3,7 +3,8 @@ use serde_json::Value;
 use std::alloc::{AllocError, Global};
 use std::io;
 use vx_job::Part;
-use vx_json::{Trail, parts};
+use vx_json::parts;
+use vx_json_rows::Trail;
 
 /// The part that a value says.
 pub(crate) fn part_of(alloc: Global, value: &Value) -> io::Result<Part> {

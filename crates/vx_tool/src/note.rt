@@ -1,6 +1,6 @@
 //! What a run tells beside its status.
 
-use vx_json::Reason;
+use vx_json_rows::Reason;
 
 /// Why the bytes of a run were no job. It is empty where they were one, and where memory for the words ran out.
 #[derive(Debug)]

@@ -8,7 +8,8 @@ ghost use Rattle.vx_tool.specs.Outcome.{AnswersBytes};
 use std::alloc::Global;
 use vx_base::{ColumnError, Ledger, Res, Seq, Steps};
 use vx_job::Job;
-use vx_json::{Reason, read_job};
+use vx_json::read_job;
+use vx_json_rows::Reason;
 use vx_pages::{page_line, refusal_line};
 use vx_plan::run_plan;
 
