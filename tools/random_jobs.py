@@ -15,7 +15,9 @@ minutes or three and has the time for some 1,000 of them.
 """
 import argparse
 import collections
+import functools
 import json
+import operator
 import pathlib
 import random
 import subprocess
@@ -29,6 +31,8 @@ CHUNK = 1024  # places in a chunk of exceptions
 INTEGERS = {f"{sign}{bits}": (0 if sign == "u" else -(2 ** (bits - 1)), 2 ** (bits - (sign == "i")) - 1)
             for sign in "ui" for bits in (8, 16, 32, 64)}
 UNSIGNED = ("u8", "u16", "u32", "u64")
+KINDS = [*INTEGERS, *INTEGERS, "bool", "bool", "utf8", "binary", "decimal"]
+OPERATORS = {"eq": operator.eq, "ne": operator.ne, "gt": operator.gt, "ge": operator.ge, "lt": operator.lt, "le": operator.le}
 
 
 # ---- types and rows, as JSON has them
@@ -55,6 +59,27 @@ def widened(dtype, wide=True):
 def printed(dtype, row):
     """The row as a page has it: bytes are printed in lower case."""
     return row.lower() if kind(dtype) == "binary" and row is not None else row
+
+
+def is_integer(dtype):
+    return kind(dtype) in INTEGERS
+
+
+def fits(dtype, row):
+    """Whether the row, a number or a null, fits a type of integers."""
+    if row is None:
+        return nullable(dtype)
+    low, high = INTEGERS[kind(dtype)]
+    return low <= row <= high
+
+
+def ordered(dtype, row):
+    """What a row, which is no null, is ordered by."""
+    if kind(dtype) == "utf8":
+        return row.encode()
+    if kind(dtype) == "binary":
+        return bytes.fromhex(row)
+    return int(row)
 
 
 def ceiling(a, b):
@@ -262,7 +287,25 @@ def mismatch(expected, found):
     return [refusal("LengthMismatch", expected=expected, found=min(found, LAST))] if found != expected else []
 
 
-def errors(column, step):
+def unlike(dtype, other):
+    return [refusal("MismatchedTypes")] if kind(dtype) != kind(other) else []
+
+
+def zip_errors(sources, column, step):
+    if step["zip"] >= len(sources):
+        return [refusal("UnknownColumn", number=step["zip"])]
+    other = sources[step["zip"]]
+    lengths = mismatch(column.length, len(step["choice"])) + mismatch(column.length, other.length)
+    return lengths + unlike(column.dtype, other.dtype)
+
+
+def cast_errors(column, target):
+    if not (is_integer(column.dtype) and is_integer(target)):
+        return [refusal("MismatchedTypes")]
+    return [refusal("BadCast", row=i) for i in range(column.length) if not fits(target, column.row(i))]
+
+
+def errors(sources, column, step):
     """All errors that are true of a step."""
     if "slice" in step:
         start, end = step["slice"]
@@ -270,21 +313,58 @@ def errors(column, step):
         return wrong + ([refusal("OutOfBounds", index=end, len=column.length)] if end > column.length else [])
     if "points" in step:
         return outside(column, step["points"])
-    if "filter" in step:
-        return mismatch(column.length, len(step["filter"]))
+    if "filter" in step or "mask" in step:
+        return mismatch(column.length, len(step.get("filter", step.get("mask"))))
+    if "zip" in step:
+        return zip_errors(sources, column, step)
+    if "fill" in step:
+        return [refusal("MismatchedTypes")] if step["fill"]["row"] is None else unlike(column.dtype, step["fill"]["type"])
+    if "cast" in step:
+        return cast_errors(column, step["cast"])
+    if "compare" in step:
+        return unlike(column.dtype, step["value"]["type"])
     if "take" in step:
         return outside(column, [i for i in step["take"] if i is not None])
     last_rows = [start + length - 1 for start, length in step["runs"] if length > 0]
     return mismatch(step["len"], sum(length for _, length in step["runs"])) + outside(column, last_rows)
 
 
-def left(column, step):
+def zipped(column, other, choice):
+    dtype = widened(column.dtype, nullable(column.dtype) or nullable(other.dtype))
+    return of_rows(dtype, [(column if flag else other).row(i) for i, flag in enumerate(choice)])
+
+
+def compared(column, holds, value):
+    """For each row whether it stands so to the value."""
+    dtype = widened("bool", nullable(column.dtype) or nullable(value["type"]))
+
+    def truth(row):
+        if row is None or value["row"] is None:
+            return None
+        return holds(ordered(column.dtype, row), ordered(value["type"], value["row"]))
+
+    return of_rows(dtype, [truth(row) for row in rows_at(column, range(column.length))])
+
+
+def left(sources, column, step):
     """The column that a step leaves, of which no error is true."""
     if "slice" in step:
         start, end = step["slice"]
         return Column(column.dtype, end - start, lambda i: column.row(start + i))
     if "filter" in step:
         return of_rows(column.dtype, rows_at(column, [i for i, flag in enumerate(step["filter"]) if flag]))
+    if "mask" in step:
+        return of_rows(widened(column.dtype), rows_at(column, [i if flag else None for i, flag in enumerate(step["mask"])]))
+    if "zip" in step:
+        return zipped(column, sources[step["zip"]], step["choice"])
+    if "fill" in step:
+        value = printed(step["fill"]["type"], step["fill"]["row"])
+        rows = [value if row is None else row for row in rows_at(column, range(column.length))]
+        return of_rows(widened(column.dtype, False), rows)
+    if "cast" in step:
+        return of_rows(step["cast"], rows_at(column, range(column.length)))
+    if "compare" in step:
+        return compared(column, OPERATORS[step["compare"]], step["value"])
     if "take" in step:
         dtype = widened(column.dtype) if None in step["take"] else column.dtype
         return of_rows(dtype, rows_at(column, step["take"]))
@@ -305,18 +385,19 @@ def replies(job):
             return [refusal("Malformed", at=at, rule=fault[1]) if fault[1] else refusal("Unsupported", at=at)]
     if not job["parts"]:
         return [refusal("UnknownColumn", number=0)]
-    column, answers = opened(job["parts"][0]), []
+    sources, answers = list(map(opened, job["parts"])), []
+    column = sources[0]
     for step in job["plan"]:
-        wrong = errors(column, step)
+        wrong = errors(sources, column, step)
         if wrong:
             return wrong
-        column = left(column, step)
+        column = left(sources, column, step)
         if "points" in step:
             answers.append({"rows": rows_at(column, step["points"])})
     return [{"answers": answers, "rows": rows_at(column, range(column.length)), "type": column.dtype}]
 
 
-# ---- random jobs
+# ---- random parts
 
 
 def random_type(rng, kinds):
@@ -463,12 +544,15 @@ def changed(rng, part):
             held[at] = min(high, max(low, held[at] + rng.choice((-1, 1, 2, 1024, -1024))))
 
 
-def random_slice(rng, length):
+# ---- random steps, each with the type and about the number of the rows that it leaves
+
+
+def random_slice(rng, dtype, length):
     start = rng.choice((0, 0, 1, rng.randint(0, min(length, 2200)), length))
     end = rng.choice((length, min(length, start + rng.randint(0, 9)), start, length - 1 if length else 0))
     if rng.random() < 0.07:
         end = rng.choice((0, min(length + 1, LAST), LAST))
-    return {"slice": [start, end]}, max(end - start, 0)
+    return {"slice": [start, end]}, dtype, max(end - start, 0)
 
 
 def near_rows(rng, length, count):
@@ -477,27 +561,32 @@ def near_rows(rng, length, count):
     return near + ([rng.choice((length, LAST))] if rng.random() < 0.05 else [])
 
 
-def random_points(rng, length):
-    return {"points": near_rows(rng, length, rng.randint(0, 4)), "kept": rng.random() < 0.5}, length
+def random_points(rng, dtype, length):
+    return {"points": near_rows(rng, length, rng.randint(0, 4)), "kept": rng.random() < 0.5}, dtype, length
 
 
-def random_filter(rng, length):
+def random_flags(rng, length):
+    """Flags for so many rows, and a few times for one more or less."""
     share = rng.choice((0, 0.1, 0.5, 0.9, 1))
     count = length + (rng.choice((-1, 1)) if rng.random() < 0.05 else 0)
-    flags = [rng.random() < share for _ in range(max(count, 0))]
-    return {"filter": flags}, sum(flags)
+    return [rng.random() < share for _ in range(max(count, 0))]
 
 
-def random_take(rng, length):
+def random_filter(rng, dtype, length):
+    flags = random_flags(rng, length)
+    return {"filter": flags}, dtype, sum(flags)
+
+
+def random_take(rng, dtype, length):
     indices = near_rows(rng, length, rng.choice((0, 1, 4, 9, 40)))
     if rng.random() < 0.5:
         indices.insert(rng.randint(0, len(indices)), None)
     if rng.random() < 0.3:
         indices.sort(key=lambda i: -1 if i is None else i)
-    return {"take": indices}, len(indices)
+    return {"take": indices}, widened(dtype) if None in indices else dtype, len(indices)
 
 
-def random_runs(rng, length):
+def random_runs(rng, dtype, length):
     starts = near_rows(rng, length, rng.randint(0, 5))
     runs = [[start, rng.choice((0, 1, 3, rng.randint(0, 1200)))] for start in starts]
     runs = [[start, min(count, length - start)] if start < length else [start, count] for start, count in runs]
@@ -507,16 +596,57 @@ def random_runs(rng, length):
         runs.append([rng.choice((0, 1, length, LAST)), rng.choice((1, length, LAST))])
     total = sum(count for _, count in runs)
     count = min(total, LAST) if rng.random() < 0.95 else rng.choice((0, total // 2, LAST))
-    return {"runs": runs, "len": count}, min(total, LAST)
+    return {"runs": runs, "len": count}, dtype, min(total, LAST)
 
 
-def random_plan(rng, length):
+def random_mask(rng, dtype, length):
+    return {"mask": random_flags(rng, length)}, widened(dtype), length
+
+
+def random_value(rng, dtype, may_be_null):
+    """A value, most times of the kind of this type."""
+    dtype = widened(dtype, rng.random() < 0.5) if rng.random() < 0.93 else random_type(rng, KINDS)
+    row = random_row(rng, dtype)
+    while row is None and not may_be_null:
+        row = random_row(rng, dtype)
+    return {"type": dtype, "row": row}
+
+
+def random_fill(rng, dtype, length):
+    return {"fill": random_value(rng, dtype, rng.random() < 0.1)}, widened(dtype, False), length
+
+
+def random_cast(rng, dtype, length):
+    """Most times to a type that holds much, since one row that it doesn't hold is enough for a refusal."""
+    targets = ["i64?", "i64?", "i64", "u64?", "i32?", random_type(rng, KINDS)]
+    if is_integer(dtype):
+        targets += [widened(dtype), widened(dtype), dtype]
+    target = rng.choice(targets)
+    return {"cast": target}, target, length
+
+
+def random_compare(rng, dtype, length):
+    value = random_value(rng, dtype, True)
+    wide = nullable(dtype) or nullable(value["type"])
+    return {"compare": rng.choice(list(OPERATORS)), "value": value}, widened("bool", wide), length
+
+
+def random_zip(rng, sources, dtype, length):
+    """Most times with a part that has as many rows of this kind, where there is one."""
+    partners = [number for number, source in enumerate(sources) if (kind(source.dtype), source.length) == (kind(dtype), length)]
+    source = rng.choice(partners) if partners and rng.random() < 0.9 else rng.randint(0, len(sources))
+    wide = nullable(dtype) or (source < len(sources) and nullable(sources[source].dtype))
+    return {"zip": source, "choice": random_flags(rng, length)}, widened(dtype, wide), length
+
+
+def random_plan(rng, sources, dtype, length):
     plan = []
     for _ in range(rng.choice((0, 1, 1, 2, 3, 4))):
         draws = [random_slice, random_slice, random_points, random_points, random_take, random_runs]
         if length <= 3000:
-            draws += [random_filter, random_filter]
-        step, length = rng.choice(draws)(rng, length)
+            draws += [random_filter, random_filter, random_mask, random_fill, random_cast, random_compare]
+            draws += [functools.partial(random_zip, sources=sources)] * (3 if len(sources) > 1 else 1)
+        step, dtype, length = rng.choice(draws)(rng, dtype=dtype, length=length)
         plan.append(step)
     if length > 3000:
         start = rng.randrange(min(length, 2200))
@@ -524,17 +654,31 @@ def random_plan(rng, length):
     return plan
 
 
+# ---- random jobs
+
+
+def random_partner(rng, part):
+    """A part of as many rows of the same kind, if these are few."""
+    dtype, length = of_kind(rng, dtype_of(part), True), len_of(part)
+    if rng.random() < 0.2:
+        return {"constant": dtype, "row": random_row(rng, dtype), "len": length}
+    cut = rng.randint(0, length)
+    chunks = [flat(rng, dtype, cut), flat(rng, dtype, length - cut)]
+    return {"chunked": dtype, "chunks": chunks} if rng.random() < 0.7 else flat(rng, dtype, length)
+
+
 def random_job(rng):
     parts = []
     for _ in range(rng.choice((1,) * 12 + (2, 2, 3, 0))):
-        kinds = [*INTEGERS, *INTEGERS, "bool", "bool", "utf8", "binary", "decimal"]
-        part = random_part(rng, random_type(rng, kinds), rng.randint(0, 3))
+        part = random_part(rng, random_type(rng, KINDS), rng.randint(0, 3))
         if rng.random() < 0.3:
             changed(rng, part)
         parts.append(part)
-    right = not any(map(first_fault, parts[:1]))
-    length = min(len_of(parts[0]), LAST) if parts and right else rng.randint(0, 5)
-    return {"parts": parts, "plan": random_plan(rng, length)}
+    if parts and not first_fault(parts[0]) and len_of(parts[0]) <= 3000 and rng.random() < 0.4:
+        parts.append(random_partner(rng, parts[0]))
+    sources = [] if any(map(first_fault, parts)) else list(map(opened, parts))
+    dtype, length = (sources[0].dtype, min(sources[0].length, LAST)) if sources else ("i32", rng.randint(0, 5))
+    return {"parts": parts, "plan": random_plan(rng, sources, dtype, length)}
 
 
 def objects(value):

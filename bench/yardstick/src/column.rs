@@ -79,6 +79,52 @@ impl Column {
             Column::Interleaved(interleaved) => range.for_each(|i| out.push(interleaved.get(i))),
         }
     }
+
+    /// The rows of a range, changed into rows of a type. What changes flat rows is told the number of the first, counted from the
+    /// front of the range. A constant stays one.
+    pub fn changed<E>(
+        &self,
+        range: Range<usize>,
+        dtype: DType,
+        change: &mut impl FnMut(usize, &Flat) -> Result<Flat, E>,
+    ) -> Result<Column, E> {
+        let (mut chunks, mut ends) = (Vec::new(), Vec::new());
+        self.change_into(range, 0, change, &mut |column| {
+            ends.push(ends.last().unwrap_or(&0) + column.len());
+            chunks.push(column);
+        })?;
+        Ok(Column::Chunked(Chunked { dtype, chunks, ends }))
+    }
+
+    fn change_into<E>(
+        &self,
+        range: Range<usize>,
+        before: usize,
+        change: &mut impl FnMut(usize, &Flat) -> Result<Flat, E>,
+        out: &mut impl FnMut(Column),
+    ) -> Result<(), E> {
+        if range.is_empty() {
+            return Ok(());
+        }
+        match self {
+            Column::Flat(flat) if range == (0..flat.len()) => out(Column::Flat(change(before, flat)?)),
+            Column::Constant { row, .. } => {
+                out(Column::Constant { row: change(before, row)?, len: range.len() });
+            }
+            Column::Chunked(chunked) => {
+                for (number, part) in chunked.pieces(range.clone()) {
+                    let from = chunked.start_of(number) + part.start - range.start;
+                    chunked.chunks[number].change_into(part, before + from, change, out)?;
+                }
+            }
+            _ => {
+                let mut flat = Flat::new(self.dtype());
+                self.append_to(range, &mut flat);
+                out(Column::Flat(change(before, &flat)?));
+            }
+        }
+        Ok(())
+    }
 }
 
 impl Chunked {
@@ -94,15 +140,20 @@ impl Chunked {
         }
     }
 
-    fn append_to(&self, range: Range<usize>, out: &mut Flat) {
-        let mut from = range.start;
-        let mut number = self.chunk_of(from);
-        while from < range.end {
+    /// The ranges within chunks that a range is, each with the number of its chunk.
+    fn pieces(&self, range: Range<usize>) -> impl Iterator<Item = (usize, Range<usize>)> + '_ {
+        let (from, to) = (range.start, range.end);
+        let numbers = self.chunk_of(from)..self.chunks.len();
+        let reached = numbers.take_while(move |number| self.start_of(*number) < to);
+        reached.map(move |number| {
             let start = self.start_of(number);
-            let to = range.end.min(self.ends[number]);
-            self.chunks[number].append_to(from - start..to - start, out);
-            from = to;
-            number += 1;
+            (number, from.max(start) - start..to.min(self.ends[number]) - start)
+        })
+    }
+
+    fn append_to(&self, range: Range<usize>, out: &mut Flat) {
+        for (number, part) in self.pieces(range) {
+            self.chunks[number].append_to(part, out);
         }
     }
 }

@@ -6,8 +6,8 @@ use serde_json::Value;
 use std::fmt;
 use std::ops::Range;
 
-/// A row, lent.
-#[derive(Clone, Copy, Debug)]
+/// A row, lent. Rows of one kind are ordered, a null before all others.
+#[derive(Clone, Copy, Debug, PartialEq, Eq, PartialOrd, Ord)]
 pub enum Scalar<'a> {
     Null,
     Bool(bool),
@@ -106,6 +106,10 @@ impl Flat {
             Values::Utf8(values) => Scalar::Utf8(&values[i]),
             Values::Binary(values) => Scalar::Binary(&values[i]),
         }
+    }
+
+    pub fn rows(&self) -> impl Iterator<Item = Scalar<'_>> {
+        (0..self.len()).map(|i| self.get(i))
     }
 
     /// Appends a row, which is of the type.
@@ -225,6 +229,6 @@ impl Serialize for Scalar<'_> {
 
 impl Serialize for Flat {
     fn serialize<S: Serializer>(&self, serializer: S) -> Result<S::Ok, S::Error> {
-        serializer.collect_seq((0..self.len()).map(|i| self.get(i)))
+        serializer.collect_seq(self.rows())
     }
 }

@@ -35,6 +35,35 @@ pub enum Step {
         runs: Vec<(usize, usize)>,
         len: usize,
     },
+    Mask {
+        flags: Vec<bool>,
+    },
+    Zip {
+        source: usize,
+        choice: Vec<bool>,
+    },
+    /// The value is a row.
+    Fill {
+        value: Flat,
+    },
+    Cast {
+        target: DType,
+    },
+    Compare {
+        operator: Operator,
+        value: Flat,
+    },
+}
+
+/// How a row is compared with a value.
+#[derive(Clone, Copy)]
+pub enum Operator {
+    Eq,
+    Ne,
+    Gt,
+    Ge,
+    Lt,
+    Le,
 }
 
 pub struct Job {
@@ -143,6 +172,24 @@ fn whole_or_null(json: &Value) -> Option<Option<usize>> {
     }
 }
 
+/// A type and a row of it.
+fn value(json: &Value) -> Option<Flat> {
+    let map = object(json, 2)?;
+    Flat::from_json(DType::from_json(map.get("type")?)?, std::slice::from_ref(map.get("row")?))
+}
+
+fn operator(json: &Value) -> Option<Operator> {
+    match json.as_str()? {
+        "eq" => Some(Operator::Eq),
+        "ne" => Some(Operator::Ne),
+        "gt" => Some(Operator::Gt),
+        "ge" => Some(Operator::Ge),
+        "lt" => Some(Operator::Lt),
+        "le" => Some(Operator::Le),
+        _ => None,
+    }
+}
+
 fn step(json: &Value) -> Option<Step> {
     let map = json.as_object()?;
     if map.contains_key("slice") {
@@ -156,8 +203,27 @@ fn step(json: &Value) -> Option<Step> {
         Some(Step::Filter { flags: list(object(json, 1)?, "filter", Value::as_bool)? })
     } else if map.contains_key("take") {
         Some(Step::Take { indices: list(object(json, 1)?, "take", whole_or_null)? })
-    } else {
+    } else if map.contains_key("runs") {
         let map = object(json, 2)?;
         Some(Step::Runs { runs: list(map, "runs", pair)?, len: whole(map.get("len")?)? })
+    } else {
+        elementwise(json, map)
+    }
+}
+
+fn elementwise(json: &Value, map: &Map<String, Value>) -> Option<Step> {
+    if map.contains_key("mask") {
+        Some(Step::Mask { flags: list(object(json, 1)?, "mask", Value::as_bool)? })
+    } else if map.contains_key("zip") {
+        let map = object(json, 2)?;
+        Some(Step::Zip { source: whole(map.get("zip")?)?, choice: list(map, "choice", Value::as_bool)? })
+    } else if map.contains_key("fill") {
+        Some(Step::Fill { value: value(object(json, 1)?.get("fill")?)? })
+    } else if map.contains_key("cast") {
+        Some(Step::Cast { target: DType::from_json(object(json, 1)?.get("cast")?)? })
+    } else {
+        let map = object(json, 2)?;
+        let operator = operator(map.get("compare")?)?;
+        Some(Step::Compare { operator, value: value(map.get("value")?)? })
     }
 }

@@ -3,6 +3,7 @@
 
 mod column;
 mod dtype;
+mod elementwise;
 mod flat;
 mod index;
 mod job;

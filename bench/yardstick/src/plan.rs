@@ -2,6 +2,7 @@
 
 use crate::column::Column;
 use crate::dtype::DType;
+use crate::elementwise;
 use crate::flat::{Flat, Scalar};
 use crate::job::{Job, Step};
 use crate::open::open;
@@ -32,7 +33,7 @@ pub fn run(job: Job) -> Result<Page, Refusal> {
     for (number, part) in job.parts.into_iter().enumerate() {
         columns.push(Rc::new(open(part, &mut vec![number])?));
     }
-    let mut rows = Rows::of(Rc::clone(columns.first().ok_or(Refusal::UnknownColumn)?));
+    let mut rows = Rows::of(Rc::clone(source_of(&columns, 0)?));
     let mut answers = Vec::new();
     for step in &job.plan {
         rows = match step {
@@ -44,9 +45,21 @@ pub fn run(job: Job) -> Result<Page, Refusal> {
             Step::Filter { flags } => rows.filter(flags)?,
             Step::Take { indices } => rows.take(indices)?,
             Step::Runs { runs, len } => rows.runs(runs, *len)?,
+            Step::Mask { flags } => rows.mask(flags)?,
+            Step::Zip { source, choice } => rows.zip(source_of(&columns, *source)?, choice)?,
+            Step::Fill { value } => Rows::of_column(elementwise::fill(&rows.column, rows.range, value)?),
+            Step::Cast { target } => Rows::of_column(elementwise::cast(&rows.column, rows.range, *target)?),
+            Step::Compare { operator, value } => {
+                Rows::of_column(elementwise::compare(&rows.column, rows.range, *operator, value)?)
+            }
         };
     }
     Ok(Page { answers, dtype: rows.column.dtype(), rows: rows.into_flat() })
+}
+
+/// The column of a part.
+fn source_of(columns: &[Rc<Column>], number: usize) -> Result<&Rc<Column>, Refusal> {
+    columns.get(number).ok_or(Refusal::UnknownColumn { number })
 }
 
 impl Rows {
@@ -55,8 +68,12 @@ impl Rows {
         Rows { column, range }
     }
 
+    fn of_column(column: Column) -> Rows {
+        Rows::of(Rc::new(column))
+    }
+
     fn of_flat(flat: Flat) -> Rows {
-        Rows::of(Rc::new(Column::Flat(flat)))
+        Rows::of_column(Column::Flat(flat))
     }
 
     fn dtype(&self) -> DType {
@@ -96,13 +113,8 @@ impl Rows {
     fn filter(self, flags: &[bool]) -> Result<Rows, Refusal> {
         check_len(self.range.len(), flags.len())?;
         let mut rows = Flat::new(self.dtype());
-        let mut at = 0;
-        for run in flags.chunk_by(|flag, next| flag == next) {
-            let end = at + run.len();
-            if run[0] {
-                self.column.append_to(self.range.start + at..self.range.start + end, &mut rows);
-            }
-            at = end;
+        for (range, _) in runs_of(flags).filter(|(_, flag)| *flag) {
+            self.column.append_to(self.range.start + range.start..self.range.start + range.end, &mut rows);
         }
         Ok(Rows::of_flat(rows))
     }
@@ -128,7 +140,7 @@ impl Rows {
             self.place(clamped(*start as u128 + *count as u128 - 1))?;
         }
         if let Column::Constant { row, .. } = self.column.as_ref() {
-            return Ok(Rows::of(Rc::new(Column::Constant { row: row.clone(), len })));
+            return Ok(Rows::of_column(Column::Constant { row: row.clone(), len }));
         }
         let mut rows = Flat::new(self.dtype());
         for (start, count) in runs.iter().filter(|(_, count)| *count > 0) {
@@ -137,6 +149,45 @@ impl Rows {
         }
         Ok(Rows::of_flat(rows))
     }
+
+    fn mask(self, flags: &[bool]) -> Result<Rows, Refusal> {
+        check_len(self.range.len(), flags.len())?;
+        let mut rows = Flat::new(DType { nullable: true, ..self.dtype() });
+        for (range, flag) in runs_of(flags) {
+            if flag {
+                self.column.append_to(self.range.start + range.start..self.range.start + range.end, &mut rows);
+            } else {
+                range.for_each(|_| rows.push(Scalar::Null));
+            }
+        }
+        Ok(Rows::of_flat(rows))
+    }
+
+    fn zip(self, other: &Column, choice: &[bool]) -> Result<Rows, Refusal> {
+        check_len(self.range.len(), choice.len())?;
+        check_len(self.range.len(), other.len())?;
+        elementwise::check_kinds(self.dtype(), other.dtype())?;
+        let nullable = self.dtype().nullable || other.dtype().nullable;
+        let mut rows = Flat::new(DType { nullable, ..self.dtype() });
+        for (range, flag) in runs_of(choice) {
+            if flag {
+                self.column.append_to(self.range.start + range.start..self.range.start + range.end, &mut rows);
+            } else {
+                other.append_to(range, &mut rows);
+            }
+        }
+        Ok(Rows::of_flat(rows))
+    }
+}
+
+/// The ranges of equal flags, each with its flag.
+fn runs_of(flags: &[bool]) -> impl Iterator<Item = (Range<usize>, bool)> + '_ {
+    let mut end = 0;
+    flags.chunk_by(|flag, next| flag == next).map(move |run| {
+        let start = end;
+        end += run.len();
+        (start..end, run[0])
+    })
 }
 
 fn check_len(expected: usize, found: usize) -> Result<(), Refusal> {

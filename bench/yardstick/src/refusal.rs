@@ -3,18 +3,20 @@
 use serde_json::{json, Value};
 
 pub enum Refusal {
-    UnknownColumn,
+    UnknownColumn { number: usize },
     Malformed { at: Vec<usize>, rule: &'static str },
     Unsupported { at: Vec<usize> },
     BadRange { start: usize, end: usize },
     OutOfBounds { index: usize, len: usize },
     LengthMismatch { expected: usize, found: usize },
+    MismatchedTypes,
+    BadCast { row: usize },
 }
 
 impl Refusal {
     pub fn to_json(&self) -> Value {
         match self {
-            Refusal::UnknownColumn => json!({"error": "UnknownColumn", "number": 0}),
+            Refusal::UnknownColumn { number } => json!({"error": "UnknownColumn", "number": number}),
             Refusal::Malformed { at, rule } => {
                 json!({"error": "Malformed", "at": at, "rule": rule})
             }
@@ -28,6 +30,8 @@ impl Refusal {
             Refusal::LengthMismatch { expected, found } => {
                 json!({"error": "LengthMismatch", "expected": expected, "found": found})
             }
+            Refusal::MismatchedTypes => json!({"error": "MismatchedTypes"}),
+            Refusal::BadCast { row } => json!({"error": "BadCast", "row": row}),
         }
     }
 }

@@ -8,7 +8,7 @@ use serde_json::Value;
 use std::alloc::Global;
 use vx_job::Step;
 use vx_json_rows::forms::{
-    Item, bool_of, field, has_field, has_keys, items_of, pair_of_wholes, seq_of, whole_of,
+    array_of, bool_of, field, has_field, has_keys, pair_of_wholes, seq_of, whole_of,
 };
 use vx_json_rows::scalars::{operator_of, scalar_of};
 use vx_json_rows::types::type_of;
@@ -195,19 +195,14 @@ pub fn step_of(alloc: Global, value: &Value, trail: &Trail<'_>) -> Result<Step, 
     }
 }
 
-impl Item for Step {
-    ghost form = { spec.step_of };
-
-    fn read(alloc: Global, value: &Value, trail: &Trail<'_>) -> Result<Step, Unread>
-        ensures { Gives (λ s. s) result (spec.step_of (view value.now)) }
-    {
-        step_of(alloc, value, trail)
-    }
-}
-
 /// A list of steps.
 pub fn steps_of(alloc: Global, value: &Value, trail: &Trail<'_>) -> Result<Vec<Step>, Unread>
     ensures { Gives (λ v. v.items) result (list_of spec.step_of (view value.now)) }
 {
-    items_of(alloc, value, trail)
+    let items = array_of(value, trail)?;
+    let mut steps = Vec::with_capacity(alloc, items.len())?;
+    for item in items {
+        steps.push(step_of(alloc, item, &Trail::Item(trail, steps.len()))?)?;
+    }
+    Ok(steps)
 }
