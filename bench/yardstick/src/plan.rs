@@ -86,6 +86,11 @@ impl Rows {
         flat
     }
 
+    fn append_to(&self, range: Range<usize>, out: &mut Flat) {
+        let start = self.range.start;
+        self.column.append_to(start + range.start..start + range.end, out);
+    }
+
     /// The place in the column of a row that has to be there.
     fn place(&self, index: usize) -> Result<usize, Refusal> {
         let len = self.range.len();
@@ -114,7 +119,7 @@ impl Rows {
         check_len(self.range.len(), flags.len())?;
         let mut rows = Flat::new(self.dtype());
         for (range, _) in runs_of(flags).filter(|(_, flag)| *flag) {
-            self.column.append_to(self.range.start + range.start..self.range.start + range.end, &mut rows);
+            self.append_to(range, &mut rows);
         }
         Ok(Rows::of_flat(rows))
     }
@@ -144,8 +149,7 @@ impl Rows {
         }
         let mut rows = Flat::new(self.dtype());
         for (start, count) in runs.iter().filter(|(_, count)| *count > 0) {
-            let start = self.range.start + start;
-            self.column.append_to(start..start + count, &mut rows);
+            self.append_to(*start..start + count, &mut rows);
         }
         Ok(Rows::of_flat(rows))
     }
@@ -155,7 +159,7 @@ impl Rows {
         let mut rows = Flat::new(DType { nullable: true, ..self.dtype() });
         for (range, flag) in runs_of(flags) {
             if flag {
-                self.column.append_to(self.range.start + range.start..self.range.start + range.end, &mut rows);
+                self.append_to(range, &mut rows);
             } else {
                 range.for_each(|_| rows.push(Scalar::Null));
             }
@@ -171,7 +175,7 @@ impl Rows {
         let mut rows = Flat::new(DType { nullable, ..self.dtype() });
         for (range, flag) in runs_of(choice) {
             if flag {
-                self.column.append_to(self.range.start + range.start..self.range.start + range.end, &mut rows);
+                self.append_to(range, &mut rows);
             } else {
                 other.append_to(range, &mut rows);
             }
