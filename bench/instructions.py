@@ -31,7 +31,7 @@ SHARES = ("reading", "buffers", "else")
 NAMED = (
     ("else", re.compile(r"drop_in_place|\bdrop\b|::drop_")),
     ("reading", re.compile(r"\bserde_json::(de|read|typed)\b|\bDeserialize for serde_json\b|(?<!\w)json::(?!write)|\bsimdutf8::")),
-    ("buffers", re.compile(r"(?<!\w)vx_json::|\byardstick::(job|dtype)::|\byardstick::flat::(Flat::from_json|read|unsigned|signed|decimal|binary)\b")),
+    ("buffers", re.compile(r"(?<!\w)vx_json(_rows)?::|\byardstick::(job|dtype)::|\byardstick::flat::(Flat::from_json|read|unsigned|signed|decimal|binary)\b")),
 )
 
 
