@@ -15,7 +15,7 @@ pub loop-number-init : goal.loop-number-init
 loop-number-init g c = record {
   told = subst (Continues (map flat_of c.args.sources.now) (flat_of c.args.first) c.args.plan.now 0 (flat_of c.args.first)) (sym c.new-answers.ensures.items)
       (continues_first (map flat_of c.args.sources.now) (flat_of c.args.first) c.args.plan.now);
-  sound = c.requires-sound;
+  sound = c.requires.sound;
   costs = λ bounded. costs_same c.args.first;
   rise = λ bounded plain. omega arith;
   monotone = omega arith;

@@ -42,3 +42,18 @@ returns-in_ok-next-in-Runs-clause-free g c =
     let x = c.args.column.now in
     subst (λ (s : Step). IsFree (map flat_of c.args.sources.now) c.args.number (flat_of x) s) (sym c.in-Runs.is)
     (subst (λ (runs : List (ℕ × ℕ)). (e : ColumnError) → IsRunsError (len_of x) c.in-Runs.len runs e → ⊥) c.as_slice-in-Runs.ensures c.in_ok-next-in-Runs.ensures.free)
+
+pub returns-in_ok-fill-in-Fill-clause-free : goal.returns-in_ok-fill-in-Fill-clause-free
+returns-in_ok-fill-in-Fill-clause-free g c =
+    let x = c.args.column.now in
+    subst (λ (s : Step). IsFree (map flat_of c.args.sources.now) c.args.number (flat_of x) s) (sym c.in-Fill.is) c.in_ok-fill-in-Fill.ensures.free
+
+pub returns-in_ok-cast-in-Cast-clause-free : goal.returns-in_ok-cast-in-Cast-clause-free
+returns-in_ok-cast-in-Cast-clause-free g c =
+    let x = c.args.column.now in
+    subst (λ (s : Step). IsFree (map flat_of c.args.sources.now) c.args.number (flat_of x) s) (sym c.in-Cast.is) c.in_ok-cast-in-Cast.ensures.free
+
+pub returns-in_ok-next-in-Compare-clause-free : goal.returns-in_ok-next-in-Compare-clause-free
+returns-in_ok-next-in-Compare-clause-free g c =
+    let x = c.args.column.now in
+    subst (λ (s : Step). IsFree (map flat_of c.args.sources.now) c.args.number (flat_of x) s) (sym c.in-Compare.is) c.in_ok-next-in-Compare.ensures.free
