@@ -1,5 +1,5 @@
 -- A step that makes each row of another is free, or some error is true of it.
-use Rattle.std.proofs.Common.{◌≡◌, ◌≢◌, ◌⊎◌, inl, inr, ℕ, zero, suc, ◌<◌, List, [], ◌∷◌, length, get_or, list_all, refl, sym, ◌∙◌, arith, Bool, true, false, Option, Some, None, IsTrue, IsFalse}
+use Rattle.std.proofs.Common.{◌≡◌, ◌≢◌, ◌⊎◌, inl, inr, ℕ, zero, suc, ◌<◌, List, [], ◌∷◌, length, get_or, refl, sym, ◌∙◌, arith, Bool, true, false, Option, Some, None, IsTrue, IsFalse}
 use Rattle.std.proofs.lemmas.Bool.{and_parts}
 use Rattle.vx_rows.specs.Fits.{row_fits, rows_fit}
 use Rattle.vx_rows.specs.Types.{AlikeTypes, is_nested}
@@ -109,7 +109,7 @@ fit_there t (row ∷ rows) (suc i) fits h = fit_there t rows i (and_parts (row_f
 cast_without : (t : DType) (rows : Rows) (target : DType) → IsInteger t → IsInteger target → IsTrue (rows_fit target rows) → NoneOf (IsCastError t rows target)
 cast_without t rows target own whole fits e (inl (same, inl apart)) = apart own
 cast_without t rows target own whole fits e (inl (same, inr apart)) = apart whole
-cast_without t rows target own whole fits e (inr (row, same, _, _, inside, misfit)) = not_both (row_fits target (get_or rows row None)) misfit (fit_there target rows row fits inside)
+cast_without t rows target own whole fits e (inr (row, same, _, _, (inside, misfit))) = not_both (row_fits target (get_or rows row None)) misfit (fit_there target rows row fits inside)
 
 misfit_or_fit : (target : DType) (rows : Rows) → (IsTrue (rows_fit target rows)) ⊎ ((row : ℕ) × IsMisfitAt target rows row)
 misfit_or_fit target [] = inl refl
