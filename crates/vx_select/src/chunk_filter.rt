@@ -8,7 +8,8 @@ ghost use Rattle.vx_job.specs.Rows.{picked};
 ghost use Rattle.vx_chunk_plans.specs.Filters.{kept_places, kept_rows, slice_places, KeepsWithin};
 ghost use Rattle.vx_column.specs.Columns.{IsSound, rows_of, len_of, type_of, chunks_of, select_bound};
 ghost use Rattle.vx_column.specs.declared.column.Column.TheVariants.{Chunked as chunked_column};
-ghost use Rattle.vx_select.specs.Spots.{AreBelow, IsRangeOf};
+ghost use Rattle.vx_select.specs.Spots.{AreBelow};
+ghost use Rattle.vx_select.specs.Ranges.{IsRangeOf};
 
 use crate::gathering::gather;
 use crate::places::places_of_slices;
