@@ -23,7 +23,7 @@ use Rattle.vx_column.specs.declared.chunked.Chunked.{Chunked}
 use Rattle.vx_column.specs.declared.column.Column.{Column}
 use Rattle.vx_column.specs.declared.column.Column.TheVariants as column
 use Rattle.vx_column.proofs.Layers.{chunks_here, type_chunked, lane_chunked}
-use Rattle.vx_column.proofs.Cuts.{row_in, len_at, held_at, greatest_at, point_cost_is}
+use Rattle.vx_column.proofs.Cuts.{row_in, len_at, held_at, same_at, greatest_at, point_cost_is}
 use Rattle.vx_select.specs.Spots.{AreBelow}
 use Rattle.vx_select.specs.Ranges.{IsRangeOf}
 use Rattle.vx_select.proofs.Chosen.{run_below}
@@ -141,6 +141,18 @@ pub record IsTurn (c : Chunked Column) (filters : List ChunkFilter) (k : ℕ) (x
   pub inside : k < length c.chunks
   pub chunk : x ≡ get_or c.chunks k x
   pub filter : f ≡ get_or filters k f
+
+pub turn_inside : (c : Chunked Column) (filters : List ChunkFilter) (k : ℕ) → AllZip KeepsWithin (map len_of c.chunks) filters → k < length filters → k < length c.chunks
+turn_inside c filters k zip h = omega (arith, h, AllZip-long KeepsWithin (map len_of c.chunks) filters zip, length-map c.chunks len_of)
+
+pub turn_at : (c : Chunked Column) (filters : List ChunkFilter) (xs : List Column) (k : ℕ) (x : Column) (f : ChunkFilter) → AllZip KeepsWithin (map len_of c.chunks) filters → k < length filters →
+    xs ≡ c.chunks → x ≡ get_or xs k x → f ≡ get_or filters k f → IsTurn c filters k x f
+turn_at c filters xs k x f zip h same at filter_at = record {
+  zip = zip;
+  inside = turn_inside c filters k zip h;
+  chunk = same_at xs c.chunks k x same at;
+  filter = filter_at;
+}
 
 pub turn_within : (c : Chunked Column) (filters : List ChunkFilter) (k : ℕ) (x : Column) (f : ChunkFilter) → IsTurn c filters k x f → KeepsWithin (len_of x) f
 turn_within c filters k x f turn =

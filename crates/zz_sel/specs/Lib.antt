@@ -1,0 +1,3 @@
+pub mod Spots
+pub mod Causes
+pub mod Ranges

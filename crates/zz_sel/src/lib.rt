@@ -1,0 +1,5 @@
+//! x
+#![tactic(auto)]
+
+pub mod chunk_filter;
+pub mod places;
