@@ -1,4 +1,0 @@
-pub mod Fits
-pub mod Ranges
-pub mod Chosen
-pub mod Filtered

@@ -1,5 +1,0 @@
-//! x
-#![tactic(auto)]
-
-pub mod chunk_filter;
-pub mod places;
