@@ -39,6 +39,9 @@ slice_range_of slice = range_with_len slice.0 (slice.1 - slice.0)
 pub slices_ranges : (n : ℕ) (slices : List (ℕ × ℕ)) → All (IsSliceOf n) slices → All (IsRangeOf n) slices
 slices_ranges n slices all = λ i d h. let slice = all i d h in (omega (arith, slice.0), slice.1)
 
+pub ranges_ordered : (n : ℕ) (slices : List (ℕ × ℕ)) → All (IsRangeOf n) slices → All (λ (slice : ℕ × ℕ). slice.0 ≤ slice.1) slices
+ranges_ordered n slices all = λ i d h. (all i d h).0
+
 -- and so is all of n rows
 pub whole_range : (n : ℕ) (slices : List (ℕ × ℕ)) → slices ≡ (0, n) ∷ [] → All (IsRangeOf n) slices
 whole_range n slices e = subst (All (IsRangeOf n)) (sym e) one
