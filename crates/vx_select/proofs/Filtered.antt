@@ -119,8 +119,12 @@ laid_few places at lens pieces zero = omega arith
 laid_few places at [] pieces (suc k) = omega arith
 laid_few places at (n ∷ lens) [] (suc k) = omega arith
 laid_few places at (n ∷ lens) (p ∷ pieces) (suc k) =
-    omega (arith, laid_few places (at + n) lens pieces k, length-append (shifted at (places n p)) (laid_from places (at + n) (take k lens) (take k pieces)),
-        length-append (shifted at (places n p)) (laid_from places (at + n) lens pieces))
+    omega (
+      arith,
+      laid_few places (at + n) lens pieces k,
+      length-append (shifted at (places n p)) (laid_from places (at + n) (take k lens) (take k pieces)),
+      length-append (shifted at (places n p)) (laid_from places (at + n) lens pieces),
+    )
 
 -- ---- rows
 
@@ -226,7 +230,7 @@ cost_next c filters k x f old mid new turn rise read =
     let at = total (take k (map len_of c.chunks)) in
     let here : point_cost x ≤ most = omega (arith, greatest_at point_cost c.chunks k x turn.inside turn.chunk, point_cost_is c) in
     let many : length (kept_before c filters (k + 1)) ≡ length (kept_before c filters k) + length places =
-        ap length (turn_next c filters k x f turn) ∙ length-append (kept_before c filters k) (shifted at places) ∙ ap (λ n. length (kept_before c filters k) + n) (length-map places (λ p. at + p)) in
+    ap length (turn_next c filters k x f turn) ∙ length-append (kept_before c filters k) (shifted at places) ∙ ap (λ n. length (kept_before c filters k) + n) (length-map places (λ p. at + p)) in
     let lanes = total_more lane_cost c.chunks k x turn.inside turn.chunk in
     let next = step old mid new (length (kept_before c filters k)) (length places) (point_cost x) most (total (map lane_cost (take k c.chunks))) (lane_cost x) rise read here in
     subst (λ n. new ≤ old + (8 * n * most + total (map lane_cost (take (k + 1) c.chunks)))) (sym many)
