@@ -217,7 +217,7 @@ runs_rows rows (run ∷ runs) all =
     ∙ ap (λ (rs : Rows). rs ++ rows_at rows (run_places runs)) (run_rows rows run.0 run.1 (all 0 run (omega arith)))
     ∙ ap (λ (rs : Rows). slice_range rows run.0 (run.0 + run.1) ++ rs) (runs_rows rows runs (λ k d h. all (suc k) d (omega arith)))
 
-run_below : (n a count : ℕ) → (0 < count → a + count ≤ n) → AreBelow n (range_with_len a count)
+pub run_below : (n a count : ℕ) → (0 < count → a + count ≤ n) → AreBelow n (range_with_len a count)
 run_below n a count f = λ i d h.
     let within : i < count = omega (arith, h, length-range_with_len a count) in
     let top = f (omega arith) in

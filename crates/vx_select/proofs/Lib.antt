@@ -9,3 +9,4 @@ pub mod Walks
 pub mod Parts
 pub mod Chosen
 pub mod Selected
+pub mod Filtered

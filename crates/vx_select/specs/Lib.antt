@@ -1,3 +1,4 @@
 pub mod Spots
 pub mod Causes
 pub mod Chosen
+pub mod Ranges

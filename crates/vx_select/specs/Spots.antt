@@ -18,6 +18,10 @@ Spot = ℕ × ℕ
 abbrev pub AreBelow : ℕ → List ℕ → Type 0
 AreBelow n places = All (λ p. p < n) places
 
+-- the places from a start to below an end, which is no more than n
+abbrev pub IsRangeOf : ℕ → ℕ × ℕ → Type 0
+IsRangeOf n range = (range.0 ≤ range.1) × (range.1 ≤ n)
+
 -- what is wanted of list k, in order
 abbrev pub wanted : ℕ → List Spot → List ℕ
 wanted k spots = map (λ s. s.1) (filter (λ s. s.0 == k) spots)

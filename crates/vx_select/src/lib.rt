@@ -1,6 +1,7 @@
 //! Rows of a column that are chosen by their places.
 #![tactic(auto)]
 
+mod chunk_filter;
 mod deal;
 pub mod gathering;
 mod places;

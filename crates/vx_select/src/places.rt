@@ -1,5 +1,5 @@
 //! The places of the rows that a selection names.
-ghost use Rattle.std.specs.Prelude.{◌≡◌, ◌+◌, ◌-◌, ◌^◌, ◌<◌, ◌≤◌, ◌↔◌, ◌⊎◌, ◌∷◌, ◌++◌, [], min, All, IfOk, IfErr, OnOk, IsOkUnless, IsTrue, length};
+ghost use Rattle.std.specs.Prelude.{◌≡◌, ◌+◌, ◌-◌, ◌^◌, ◌<◌, ◌≤◌, ◌↔◌, ◌⊎◌, ◌∷◌, ◌++◌, [], min, ℕ, All, IfOk, IfErr, OnOk, IsOkUnless, IsTrue, length};
 ghost use Rattle.std.specs.List.{range_with_len};
 ghost use Rattle.vx_rows.specs.Fits.{rows_fit};
 ghost use Rattle.vx_rows.specs.declared.error.ColumnError.TheVariants.{OutOfMemory};
@@ -9,6 +9,7 @@ ghost use Rattle.vx_job.specs.Kinds.{is_nullable};
 ghost use Rattle.vx_job.specs.Rows.{Rows, picked as rows_at};
 ghost use Rattle.vx_bulk.specs.Selections.{picked, IsWithin, IsInside};
 ghost use Rattle.vx_job.specs.Selections.{IsBeyond, IsRunBeyond, run_total};
+ghost use Rattle.vx_chunk_plans.specs.Filters.{slice_places};
 ghost use Rattle.vx_select.specs.Causes.{TakeCause, RunsCause, run_places, present};
 
 use std::alloc::Global;
@@ -166,6 +167,19 @@ pub(crate) fn places_of_runs(alloc: Global, runs: &[(usize, usize)], len: usize)
     let mut places = Vec::new(alloc);
     for run in runs {
         push_range(&mut places, run.0, run.1)?;
+    }
+    Ok(places)
+}
+
+/// The places of slices, each of a start and an end.
+pub(crate) fn places_of_slices(alloc: Global, slices: &[(usize, usize)]) -> Res<Vec<usize>>
+    requires { All (λ (slice : ℕ × ℕ). slice.0 ≤ slice.1) slices.now }
+    ensures ok { IfOk result (λ places. places.items ≡ slice_places slices.now) }
+    ensures err { IsOkUnless result ColumnError.OutOfMemory }
+{
+    let mut places = Vec::new(alloc);
+    for slice in slices {
+        push_range(&mut places, slice.0, slice.1 - slice.0)?;
     }
     Ok(places)
 }

@@ -7,19 +7,20 @@ ghost use Rattle.vx_masks.specs.Masks.{bits_of};
 ghost use Rattle.vx_job.specs.Rows.{picked as rows_at};
 ghost use Rattle.vx_job.specs.Selections.{run_total};
 ghost use Rattle.vx_column.specs.Columns.{IsSound, rows_of, type_of, len_of, select_bound};
-ghost use Rattle.vx_column.specs.declared.column.Column.TheVariants.{Flat as flat_column};
+ghost use Rattle.vx_column.specs.declared.column.Column.TheVariants.{Flat as flat_column, Chunked as chunked_column};
 ghost use Rattle.vx_bulk.specs.Selections.{kept, picked, joined_runs, IsWithin, IsInside};
 ghost use Rattle.vx_bulk.specs.Types.{taken_type, nullable};
 ghost use Rattle.vx_select.specs.Chosen.{IsSelectionOf};
 ghost use Rattle.vx_select.specs.Causes.{FilterCause, TakeCause, RunsCause, run_places, present};
 ghost use Rattle.vx_select.specs.Spots.{AreBelow};
 
+use crate::chunk_filter::filtered_rows;
 use crate::gathering::gather;
 use crate::places::{are_all, check_runs, places_kept, places_of_runs, present_places, spread};
 use std::alloc::Global;
 use vx_base::{ColumnError, DType, FlatColumn, Ledger, Nullability, Res, RowBuffer, Steps};
 use vx_bulk::Bulk;
-use vx_column::Column;
+use vx_column::{ChunkedArray, Column};
 use vx_masks::Mask;
 
 /// Selections of rows. All rows in order are the same column, and others a flat one. A constant stays a constant, but where a
@@ -77,6 +78,9 @@ impl Select for Column {
         }
         if let Column::Flat(rows) = self {
             return kept_flat(rows, alloc, mask, steps);
+        }
+        if let Column::Chunked(array) = self {
+            return kept_chunked(array, alloc, mask, steps);
         }
         let places = places_kept(alloc, mask)?;
         picked_of(self, alloc, places.as_slice(), steps)
@@ -164,6 +168,26 @@ fn kept_flat<L: Ledger>(
     ensures monotone { steps.old ≤ steps.new }
 {
     let part = rows.filter(alloc, mask, steps)?;
+    Ok(Column::flat(part))
+}
+
+/// The rows of chunks whose bit is true, as a flat column.
+fn kept_chunked<L: Ledger>(
+    array: &ChunkedArray,
+    alloc: Global,
+    mask: &Mask,
+    steps: &mut Steps<L>,
+) -> Res<Column>
+    requires sound { IsSound (chunked_column array.now) }
+    requires long { length (bits_of mask.now) ≡ len_of (chunked_column array.now) }
+    ensures ok { IfOk result (IsSelectionOf (chunked_column array.now) (type_of (chunked_column array.now)) (kept (rows_of (chunked_column array.now)) (bits_of mask.now))) }
+    ensures err { IsOkUnless result ColumnError.OutOfMemory }
+    ensures rise { steps.new ≤ steps.old + select_bound (chunked_column array.now) (count_true (bits_of mask.now)) }
+    ensures monotone { steps.old ≤ steps.new }
+{
+    let rows = filtered_rows(array, alloc, mask, steps)?;
+    let dtype = array.dtype().copy()?;
+    let part = FlatColumn::from_buffer(alloc, dtype, rows)?;
     Ok(Column::flat(part))
 }
 

@@ -34,12 +34,12 @@ pub bounds-as_slice-0 : goal.bounds-as_slice-0
 bounds-as_slice-0 g c =
     omega (arith, c.in_ok-columns.ensures.some, opened_length c.as_slice.result.now c.in_ok-columns.columns.items c.in_ok-columns.ensures.ok, ap length c.as_slice-2.ensures.value)
 
-pub run_steps-requires-clause-sound : goal.run_steps-requires-sound
+pub run_steps-requires-clause-sound : goal.run_steps-requires-clause-sound
 run_steps-requires-clause-sound g c = first_sound c.args.parts.items c.as_slice-3.result.now c.in_ok-first.first
     (first_of c.args.parts.items c.as_slice.result.now c.in_ok-columns.columns.items c.as_slice-2.result.now c.as_slice-3.result.now c.index-as_slice-0.result c.in_ok-first.first c.as_slice.ensures.value
     c.in_ok-columns.ensures.ok c.in_ok-columns.ensures.some c.as_slice-2.ensures.value c.as_slice-3.ensures.value c.index-as_slice-0.is c.in_ok-first.ensures.ok)
 
-pub run_steps-requires-clause-sources : goal.run_steps-requires-sources
+pub run_steps-requires-clause-sources : goal.run_steps-requires-clause-sources
 run_steps-requires-clause-sources g c = sources_sound c.args.parts.items c.as_slice-3.result.now c.in_ok-first.first
     (first_of c.args.parts.items c.as_slice.result.now c.in_ok-columns.columns.items c.as_slice-2.result.now c.as_slice-3.result.now c.index-as_slice-0.result c.in_ok-first.first c.as_slice.ensures.value
     c.in_ok-columns.ensures.ok c.in_ok-columns.ensures.some c.as_slice-2.ensures.value c.as_slice-3.ensures.value c.index-as_slice-0.is c.in_ok-first.ensures.ok)
