@@ -1,7 +1,6 @@
 -- From the first column to the parts.
-use Rattle.std.proofs.Common.{◌≡◌, ◌⊎◌, inl, inr, ℕ, ◌+◌, ◌*◌, ◌≤◌, ◌<◌, List, [], ◌∷◌, map, length, get_or, sym, ◌∙◌, ap, subst, arith}
+use Rattle.std.proofs.Common.{◌≡◌, ◌⊎◌, inl, inr, ℕ, ◌+◌, ◌*◌, ◌≤◌, ◌<◌, List, [], ◌∷◌, map, length, get_or, sym, ap, subst, arith}
 use Rattle.std.specs.List.{All, AllByRecursion}
-use Rattle.std.proofs.Math.Nat.{mul-le-mul_left}
 use Rattle.std.proofs.lemmas.List.Elements.{All-from_recursion}
 use Rattle.vx_rows.specs.declared.dtype.DType.{DType}
 use Rattle.vx_rows.specs.declared.error.ColumnError.{ColumnError}
@@ -12,8 +11,8 @@ use Rattle.vx_column.specs.declared.column.Column.{Column}
 use Rattle.vx_job.specs.declared.part.Part.{Part}
 use Rattle.vx_job.specs.declared.step.Step.{Step}
 use Rattle.vx_job.specs.declared.page.Answer.{Answer}
-use Rattle.vx_job.specs.Parts.{part_type, part_flat, part_point_cost, part_select_bound, open_cost, IsClean, PartsCause, IsOpenError}
-use Rattle.vx_job.specs.Steps.{HasBound, step_cost}
+use Rattle.vx_job.specs.Parts.{part_flat, part_point_cost, part_select_bound, open_cost, IsClean, PartsCause}
+use Rattle.vx_job.specs.Steps.{HasBound}
 use Rattle.vx_job.specs.Plans.{RunsTo, StopsWith, sources_of, Reaches, IsPlanError, AreBounded, plan_cost, plan_bound, rows_bound}
 use Rattle.vx_job.proofs.Faults.{no_fault_among}
 use Rattle.vx_job.proofs.Runs.{runs_freely}

@@ -10,7 +10,7 @@ use Rattle.vx_rows.specs.declared.dtype.DType.TheOpen.{DType-F}
 use Rattle.vx_base.specs.Column.{flat}
 use Rattle.vx_bulk.specs.Types.{nullable, taken_type}
 use Rattle.vx_job.specs.Rows.{Rows}
-use Rattle.vx_column.specs.Columns.{type_of, rows_of, flat_of}
+use Rattle.vx_column.specs.Columns.{type_of, flat_of}
 use Rattle.vx_column.specs.declared.column.Column.{Column}
 use Rattle.vx_select.specs.Chosen.{IsSelectionOf}
 use Rattle.vx_plan.specs.AnswersView.{CostsNoMore}

@@ -1,4 +1,4 @@
-use Rattle.std.proofs.Common.{◌≡◌, ◌+◌, List, map, take, sym, ◌∙◌, subst, arith, None}
+use Rattle.std.proofs.Common.{◌+◌, List, map, take, sym, ◌∙◌, subst, arith, None}
 use Rattle.std.specs.List.{All}
 use Rattle.std.proofs.lemmas.Result.{err_from_is_err_and}
 use Rattle.vx_rows.specs.declared.dtype.DType.{DType}

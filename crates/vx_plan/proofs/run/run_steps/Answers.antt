@@ -1,5 +1,4 @@
-use Rattle.std.proofs.Common.{◌+◌, List, map, sym, ap, ◌∙◌, subst, arith}
-use Rattle.std.specs.Option.{unwrap_or}
+use Rattle.std.proofs.Common.{◌+◌, List, map, sym, subst, arith}
 use Rattle.std.proofs.lemmas.Result.{err_from_is_err_and}
 use Rattle.vx_base.specs.Column.{Flat}
 use Rattle.vx_column.specs.Columns.{flat_of, IsSound, point_cost, select_bound}

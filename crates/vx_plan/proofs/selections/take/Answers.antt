@@ -1,6 +1,5 @@
-use Rattle.std.proofs.Common.{◌≡◌, ◌+◌, ◌≤◌, ◌⊎◌, refl}
 use Rattle.std.proofs.lemmas.Result.{IfOk-weaker, on_ok_weaker}
-use Rattle.vx_column.specs.Columns.{IsSound, rows_of, type_of, len_of, flat_of}
+use Rattle.vx_column.specs.Columns.{IsSound, type_of, len_of}
 use Rattle.vx_bulk.specs.Types.{taken_type}
 use Rattle.vx_job.proofs.SelectionErrors.{take_free}
 use Rattle.vx_plan.specs.AnswersView.{CostsNoMore}
