@@ -158,6 +158,19 @@ fn summed_with<L: Ledger>(
     }
 }
 
+fn cut<L: Ledger>(
+    alloc: Global,
+    column: &Column,
+    call: &Call<'_>,
+    steps: &mut Steps<L>,
+) -> Res<Column>
+    requires { IsSound column.now }
+    ensures { IfOk result IsSound }
+{
+    let part = column.slice(alloc, call.number(1)..call.number(2), steps)?;
+    Ok(part)
+}
+
 /// The column that a call makes.
 pub(crate) fn made<L: Ledger>(
     alloc: Global,
@@ -175,6 +188,7 @@ pub(crate) fn made<L: Ledger>(
         "cast" => converted(alloc, column, call, steps),
         "compare" => compared(alloc, column, call, steps),
         "push_unary" => summed(alloc, column, steps),
+        "slice" => cut(alloc, column, call, steps),
         _ => summed_with(alloc, column, call, steps),
     }
 }

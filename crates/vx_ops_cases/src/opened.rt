@@ -6,7 +6,8 @@
 //! - `["mask",B]` and `["zip",P,B]`, where `null` in place of a part is the column itself, and B is a text of bits, as `"101"`, or
 //!   a number of bits that are true, as many false, and so on;
 //! - `["fill",S]`, `["cast",T]` and `["compare",O,S]`;
-//! - `["push_unary"]` and `["push_constant",[S]]`: the sums of each row and 1, or the first scalar.
+//! - `["push_unary"]` and `["push_constant",[S]]`: the sums of each row and 1, or the first scalar;
+//! - `["slice",start,end]`.
 //!
 //! The others are `["rows"]`, all rows; `["chunks"]`, the rows of each chunk; `["pairs",P]`, the pairs of chunks of the column and
 //! another; `["constant"]`, whether one row is stored for all; `["numbered"]`, how many rows are null, and how many are the numbers of
@@ -148,7 +149,14 @@ impl Asked for Opened {
     fn makes(&self, call: &Call<'_>) -> bool {
         matches!(
             call.name,
-            "mask" | "zip" | "fill" | "cast" | "compare" | "push_unary" | "push_constant"
+            "mask"
+                | "zip"
+                | "fill"
+                | "cast"
+                | "compare"
+                | "push_unary"
+                | "push_constant"
+                | "slice"
         )
     }
 
