@@ -1,14 +1,16 @@
 -- A step is free, or some error is true of it.
 use Rattle.std.proofs.Common.{◌≢◌, ◌⊎◌, inl, inr, ℕ, zero, suc, ◌≤◌, ◌<◌, List, [], ◌∷◌, length, get_or, refl, arith, Bool}
+use Rattle.std.specs.List.{slice_get}
 use Rattle.std.proofs.lemmas.Bool.{cases_lt}
 use Rattle.vx_rows.specs.declared.error.ColumnError.{ColumnError}
 use Rattle.vx_rows.specs.declared.error.ColumnError.TheVariants.{OutOfMemory, BadRange, OutOfBounds}
 use Rattle.vx_base.specs.Column.{Flat}
 use Rattle.vx_job.specs.declared.step.Step.{Step}
-use Rattle.vx_job.specs.declared.step.Step.TheVariants.{Slice, Points, Filter, Take, Runs}
+use Rattle.vx_job.specs.declared.step.Step.TheVariants.{Slice, Points, Filter, Take, Runs, Mask, Zip, Fill, Cast, Compare}
 use Rattle.vx_job.specs.Steps.{IsFree, AreInside, IsPointsError}
 use Rattle.vx_job.specs.Laws.{HasError}
 use Rattle.vx_job.proofs.SelectionErrors.{length_judged, take_judged, runs_judged}
+use Rattle.vx_job.proofs.ElementwiseErrors.{zip_judged, fill_judged, cast_judged, compare_judged}
 
 abbrev Judged : List Flat → ℕ → Flat → Step → Type 0
 Judged sources number c step = IsFree sources number c step ⊎ HasError sources number c step
@@ -66,3 +68,8 @@ step_judged sources number c (Points numbers kept) = points_judged sources numbe
 step_judged sources number c (Filter mask) = length_judged (length c.rows) (length mask)
 step_judged sources number c (Take indices) = take_judged (length c.rows) indices
 step_judged sources number c (Runs runs len) = runs_judged (length c.rows) len runs
+step_judged sources number c (Mask mask) = length_judged (length c.rows) (length mask)
+step_judged sources number c (Zip source choice) = zip_judged source (slice_get sources source) c (length choice)
+step_judged sources number c (Fill value) = fill_judged number c.dtype value
+step_judged sources number c (Cast target) = cast_judged number c.dtype c.rows target
+step_judged sources number c (Compare op value) = compare_judged number c.dtype value.dtype

@@ -4,6 +4,7 @@ pub mod Kinds
 pub mod Faults
 pub mod Parts
 pub mod Selections
+pub mod Elementwise
 pub mod Steps
 pub mod Plans
 pub mod Laws
