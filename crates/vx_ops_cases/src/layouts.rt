@@ -1,11 +1,10 @@
 //! Comparisons of rows under exceptions by lane, as bits.
-use crate::reading::{flat_of, operator_of, truths_of};
+use crate::reading::{flat_of, operator_of, truths_of, unsupported};
 use serde_json::Value;
 use std::alloc::{AllocError, Global};
 use vx_base::{DType, Ledger, NoLedger, Res, Steps};
 use vx_lane_compare::CompareLanes;
 use vx_lanes::Lanes;
-use crate::reading::unsupported;
 
 /// The member of this name; the value itself where there is none.
 fn part<'v>(value: &'v Value, name: &str) -> &'v Value {

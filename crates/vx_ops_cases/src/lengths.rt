@@ -42,7 +42,11 @@ fn push_range(text: &mut String, range: &PairedRange) -> Result<(), AllocError> 
     let right = &range.right;
     let pos = &range.pos;
     write!(text, ", {}:{}..{}", range.left_chunk, left.start, left.end)?;
-    write!(text, " {}:{}..{}", range.right_chunk, right.start, right.end)?;
+    write!(
+        text,
+        " {}:{}..{}",
+        range.right_chunk, right.start, right.end
+    )?;
     write!(text, " at {}..{}", pos.start, pos.end)?;
     Ok(())
 }

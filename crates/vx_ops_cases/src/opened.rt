@@ -149,14 +149,7 @@ impl Asked for Opened {
     fn makes(&self, call: &Call<'_>) -> bool {
         matches!(
             call.name,
-            "mask"
-                | "zip"
-                | "fill"
-                | "cast"
-                | "compare"
-                | "push_unary"
-                | "push_constant"
-                | "slice"
+            "mask" | "zip" | "fill" | "cast" | "compare" | "push_unary" | "push_constant" | "slice"
         )
     }
 
