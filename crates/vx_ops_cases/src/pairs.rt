@@ -35,7 +35,8 @@ fn next_text<L: Ledger>(
     pairs: &mut PairedChunks,
     steps: &mut Steps<L>,
 ) -> Res<Option<String>> {
-    match pairs.next_pair(alloc, steps)? {
+    let next = pairs.next_pair(alloc, steps)?;
+    match next {
         Some(pair) => Ok(Some(pair_text(alloc, &pair, steps)?)),
         None => Ok(None),
     }
