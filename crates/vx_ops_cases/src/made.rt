@@ -9,7 +9,8 @@ use std::alloc::Global;
 use vx_base::{Ledger, Res, Steps};
 use vx_cases::Call;
 use vx_column::Column;
-use vx_json::{Trail, parts};
+use vx_json::parts;
+use vx_json_rows::Trail;
 use vx_ops::{cast, compare, fill, mask, push_constant, push_unary, zip};
 use vx_plan::open::open_part;
 
