@@ -2,3 +2,4 @@ pub mod Scalars
 pub mod Operators
 pub mod Orders
 pub mod Elementwise
+pub mod Membership
