@@ -457,16 +457,16 @@ cheap_all (e ∷ es) = omega (arith, e.1, cheap_all es)
 cheap_layer : (y : Column-F ((x : Column) × IsCheap x)) → IsCheap (roll-Column (map-Column ((x : Column) × IsCheap x) Column (λ e. e.0) y))
 cheap_layer (Column-F.Flat rows) = subst IsCheap (sym (rolls-Flat rows)) (omega (arith, cut_flat rows))
 cheap_layer (Column-F.Chunked c) =
-    let whole : Chunked Column = record { dtype = c.dtype; boundaries = c.boundaries; chunks = map (λ e. e.0) c.chunks } in
+    let whole : Chunked Column = record { dtype = c.dtype; boundaries = c.boundaries; chunks = map (λ e. e.0) c.chunks; slots = map (λ e. e.0) c.slots } in
     subst IsCheap (sym (rolls-Chunked whole)) (omega (arith, cut_cost_is whole, point_cost_is whole, cheap_all c.chunks))
 cheap_layer (Column-F.Patched p) =
-    let whole : Patched Column = record { inner = p.inner.0; lanes = p.lanes } in
+    let whole : Patched Column = record { inner = p.inner.0; lanes = p.lanes; slots = map (λ e. e.0) p.slots } in
     subst IsCheap (sym (rolls-Patched whole)) (omega (arith, cut_patched whole, point_patched whole, p.inner.1))
 cheap_layer (Column-F.Excepted x) =
     let whole : Excepted Column = record { base = x.base.0; index = x.index; values = x.values.0; slots = map (λ e. e.0) x.slots } in
     subst IsCheap (sym (rolls-Excepted whole)) (omega (arith, cut_excepted whole, point_excepted whole, places_cheap x.index, x.base.1, x.values.1))
 cheap_layer (Column-F.Interleave i) =
-    let whole : Interleave Column = record { dtype = i.dtype; selectors = i.selectors; values = map (λ e. e.0) i.values } in
+    let whole : Interleave Column = record { dtype = i.dtype; selectors = i.selectors; values = map (λ e. e.0) i.values; slots = map (λ e. e.0) i.slots } in
     subst IsCheap (sym (rolls-Interleave whole)) (omega (arith, cut_interleave whole))
 
 pub cut_at_most_twice : (x : Column) → cut_cost x ≤ 2 * point_cost x

@@ -1,13 +1,13 @@
 -- Interleaved columns: their rows, reads and cuts.
 use Rattle.std.proofs.Common.{◌≡◌, ℕ, ◌-◌, ◌<◌, List, [], take, drop, map, length, get_or, None, sym, ◌∙◌, ap, arith}
-use Rattle.std.specs.List.{slice_range}
+use Rattle.std.specs.List.{slice_range, All}
 use Rattle.std.proofs.lemmas.List.{take-map, drop-map, length-map, get_or-map}
 use Rattle.std.proofs.lemmas.Slice.Zip.{get_or-zip}
 use Rattle.vx_base.proofs.CheckLemmas.{length_numbers}
 use Rattle.vx_interleave.specs.Selections.{Selection, IsSelection, arrays_of, rows_of as row_numbers, pairs_of, len_of as count_of, array_of, row_of, window_of}
 use Rattle.vx_interleave.proofs.Columns.{pairs_window, window_within, window_sound, length_pairs, array_within, row_within}
 use Rattle.vx_chunks.specs.Bounds.{total}
-use Rattle.vx_column.specs.Columns.{all_true, rows_of, len_of, point_cost, lane_cost, is_plain, IsSound, IsSliceOf}
+use Rattle.vx_column.specs.Columns.{all_true, selector_slots, rows_of, len_of, point_cost, lane_cost, is_plain, IsSound, IsSliceOf}
 use Rattle.vx_job.specs.Rows.{Rows, interleaved, greatest}
 use Rattle.vx_column.specs.declared.interleave.Interleave.{Interleave}
 use Rattle.vx_column.specs.declared.column.Column.{Column}
@@ -27,8 +27,8 @@ row_named i at k h =
     ∙ ap (λ (p : ℕ × ℕ). get_or (get_or (map rows_of i.values) p.0 []) p.1 None) (get_or-zip (arrays_of i.selectors) (row_numbers i.selectors) at (0, 0) a b)
 
 pub cut_interleaved : (i j : Interleave Column) (start end : ℕ) → IsSound (column.Interleave i) → j.dtype ≡ i.dtype → j.selectors ≡ window_of i.selectors start end → j.values ≡ i.values →
-    IsSliceOf (column.Interleave i) (column.Interleave j) start end
-cut_interleaved i j start end s et es ev =
+    j.slots ≡ map column.Flat (selector_slots j.selectors) → All IsSound j.slots → IsSliceOf (column.Interleave i) (column.Interleave j) start end
+cut_interleaved i j start end s et es ev el held =
     let here = interleaved_here i s in
     let row : ℕ × ℕ → _ = λ (p : ℕ × ℕ). get_or (get_or (map rows_of i.values) p.0 []) p.1 None in
     record {
@@ -39,7 +39,7 @@ cut_interleaved i j start end s et es ev =
         alike = rw ev here.alike;
         joined = rw (et, ev) here.joined;
         within = rw (es, ev) (window_within i.selectors (map len_of i.values) start end here.within);
-      }) (rw ev (interleaved_held i s));
+      }) el (rw ev (interleaved_held i s)) held;
       dtype = type_interleave j ∙ et ∙ sym (type_interleave i);
       rows = rows_interleave j ∙ ap (λ (xs : List Column). interleaved (map rows_of xs) (pairs_of j.selectors)) ev ∙ ap (λ (s : Selection). interleaved (map rows_of i.values) (pairs_of s)) es
           ∙ ap (interleaved (map rows_of i.values)) (pairs_window i.selectors start end)

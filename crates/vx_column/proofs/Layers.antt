@@ -12,7 +12,7 @@ use Rattle.vx_interleave.specs.Selections.{pairs_of}
 use Rattle.vx_search.proofs.Powers.{search_bound_positive}
 use Rattle.vx_base.specs.Column.{Flat, IsFlat}
 use Rattle.vx_rows.specs.declared.dtype.DType.{DType}
-use Rattle.vx_column.specs.Columns.{type_of, type_step, lane_cost, lane_step, lane_entries, is_plain, plain_step, all_true, rows_of, rows_step, point_cost, point_step, cut_cost, cut_step, len_of, AreChunks, AreLanes, AreExceptions, AreInterleaved, IsSound, IsPlain, IsSoundLayer, slots_in}
+use Rattle.vx_column.specs.Columns.{type_of, type_step, lane_cost, lane_step, lane_entries, is_plain, plain_step, all_true, rows_of, rows_step, point_cost, point_step, cut_cost, cut_step, len_of, AreChunks, AreLanes, AreExceptions, AreInterleaved, IsSound, IsPlain, IsSoundLayer, slots_in, offset_slots, lane_slots, selector_slots}
 use Rattle.vx_job.specs.Rows.{Rows, lane_reads, joined, excepted, interleaved, greatest}
 use Rattle.vx_column.specs.declared.chunked.Chunked.{Chunked}
 use Rattle.vx_column.specs.declared.patched.Patched.{Patched}
@@ -118,11 +118,23 @@ plain_interleave i = ap is_plain (sym (rolls-Interleave i)) ∙ fold-roll-Column
 pub flat_here : (rows : Flat) → IsSound (column.Flat rows) → IsFlat rows
 flat_here rows s = subst IsSoundLayer (outs-Flat rows) (every_here-Column IsSoundLayer (column.Flat rows) s)
 
+chunks_layer : (c : Chunked Column) → IsSound (column.Chunked c) → IsSoundLayer (Column-F.Chunked c)
+chunks_layer c s = subst IsSoundLayer (outs-Chunked c) (every_here-Column IsSoundLayer (column.Chunked c) s)
+
 pub chunks_here : (c : Chunked Column) → IsSound (column.Chunked c) → AreChunks c
-chunks_here c s = subst IsSoundLayer (outs-Chunked c) (every_here-Column IsSoundLayer (column.Chunked c) s)
+chunks_here c s = (chunks_layer c s).0
+
+pub offsets_here : (c : Chunked Column) → IsSound (column.Chunked c) → c.slots ≡ map column.Flat (offset_slots c.boundaries)
+offsets_here c s = (chunks_layer c s).1
+
+lanes_layer : (p : Patched Column) → IsSound (column.Patched p) → IsSoundLayer (Column-F.Patched p)
+lanes_layer p s = subst IsSoundLayer (outs-Patched p) (every_here-Column IsSoundLayer (column.Patched p) s)
 
 pub lanes_here : (p : Patched Column) → IsSound (column.Patched p) → AreLanes p
-lanes_here p s = subst IsSoundLayer (outs-Patched p) (every_here-Column IsSoundLayer (column.Patched p) s)
+lanes_here p s = (lanes_layer p s).0
+
+pub lane_slots_here : (p : Patched Column) → IsSound (column.Patched p) → p.slots ≡ map column.Flat (lane_slots p.lanes)
+lane_slots_here p s = (lanes_layer p s).1
 
 exceptions_layer : (x : Excepted Column) → IsSound (column.Excepted x) → IsSoundLayer (Column-F.Excepted x)
 exceptions_layer x s = subst IsSoundLayer (outs-Excepted x) (every_here-Column IsSoundLayer (column.Excepted x) s)
@@ -133,8 +145,14 @@ exceptions_here x s = (exceptions_layer x s).0
 pub slots_here : (x : Excepted Column) → IsSound (column.Excepted x) → x.slots ≡ map column.Flat (slots_in x.index)
 slots_here x s = (exceptions_layer x s).1
 
+interleaved_layer : (i : Interleave Column) → IsSound (column.Interleave i) → IsSoundLayer (Column-F.Interleave i)
+interleaved_layer i s = subst IsSoundLayer (outs-Interleave i) (every_here-Column IsSoundLayer (column.Interleave i) s)
+
 pub interleaved_here : (i : Interleave Column) → IsSound (column.Interleave i) → AreInterleaved i
-interleaved_here i s = subst IsSoundLayer (outs-Interleave i) (every_here-Column IsSoundLayer (column.Interleave i) s)
+interleaved_here i s = (interleaved_layer i s).0
+
+pub selectors_here : (i : Interleave Column) → IsSound (column.Interleave i) → i.slots ≡ map column.Flat (selector_slots i.selectors)
+selectors_here i s = (interleaved_layer i s).1
 
 -- a column with a proof
 abbrev Known : Type 0
@@ -145,8 +163,16 @@ abbrev children_in : {A : Type 0} → Column-F A → List A
 children_in (Column-F.Flat rows) = []
 children_in (Column-F.Chunked c) = c.chunks
 children_in (Column-F.Patched p) = p.inner ∷ []
-children_in (Column-F.Excepted x) = x.base ∷ x.values ∷ x.slots
+children_in (Column-F.Excepted x) = x.base ∷ x.values ∷ []
 children_in (Column-F.Interleave i) = i.values
+
+-- those over the rows of its own parts
+abbrev flat_slots : {A : Type 0} → Column-F A → List A
+flat_slots (Column-F.Flat rows) = []
+flat_slots (Column-F.Chunked c) = c.slots
+flat_slots (Column-F.Patched p) = p.slots
+flat_slots (Column-F.Excepted x) = x.slots
+flat_slots (Column-F.Interleave i) = i.slots
 
 known_sound : (xs : List Known) → AllByRecursion IsSound (map (λ e. e.0) xs)
 known_sound [] = tt
@@ -156,14 +182,26 @@ layer_sound : (x : Column-F Known) → AllByRecursion IsSound (children_in (map-
 layer_sound (Column-F.Flat rows) = tt
 layer_sound (Column-F.Chunked c) = known_sound c.chunks
 layer_sound (Column-F.Patched p) = known_sound (p.inner ∷ [])
-layer_sound (Column-F.Excepted x) = known_sound (x.base ∷ x.values ∷ x.slots)
+layer_sound (Column-F.Excepted x) = known_sound (x.base ∷ x.values ∷ [])
 layer_sound (Column-F.Interleave i) = known_sound i.values
+
+layer_slots : (x : Column-F Known) → AllByRecursion IsSound (flat_slots (map-Column Known Column (λ e. e.0) x))
+layer_slots (Column-F.Flat rows) = tt
+layer_slots (Column-F.Chunked c) = known_sound c.slots
+layer_slots (Column-F.Patched p) = known_sound p.slots
+layer_slots (Column-F.Excepted x) = known_sound x.slots
+layer_slots (Column-F.Interleave i) = known_sound i.slots
 
 -- what is below a sound column is sound
 sound_within : (x : Column) → IsSound x → AllByRecursion IsSound (children_in (out-Column x))
 sound_within x s =
     let held = every_held-Column IsSoundLayer x s in
     subst (AllByRecursion IsSound) (ap children_in held.1) (layer_sound held.0)
+
+slots_within : (x : Column) → IsSound x → AllByRecursion IsSound (flat_slots (out-Column x))
+slots_within x s =
+    let held = every_held-Column IsSoundLayer x s in
+    subst (AllByRecursion IsSound) (ap flat_slots held.1) (layer_slots held.0)
 
 pub sound_held : (c : Chunked Column) → IsSound (column.Chunked c) → All IsSound c.chunks
 sound_held c s = All-from_recursion IsSound c.chunks (subst (AllByRecursion IsSound) (ap children_in (outs-Chunked c)) (sound_within (column.Chunked c) s))
@@ -175,18 +213,25 @@ inner_held p s =
 
 pub base_held : (x : Excepted Column) → IsSound (column.Excepted x) → IsSound x.base
 base_held x s =
-    let held : AllByRecursion IsSound (x.base ∷ x.values ∷ x.slots) = subst (AllByRecursion IsSound) (ap children_in (outs-Excepted x)) (sound_within (column.Excepted x) s) in
+    let held : AllByRecursion IsSound (x.base ∷ x.values ∷ []) = subst (AllByRecursion IsSound) (ap children_in (outs-Excepted x)) (sound_within (column.Excepted x) s) in
     held.0
 
 pub values_held : (x : Excepted Column) → IsSound (column.Excepted x) → IsSound x.values
 values_held x s =
-    let held : AllByRecursion IsSound (x.base ∷ x.values ∷ x.slots) = subst (AllByRecursion IsSound) (ap children_in (outs-Excepted x)) (sound_within (column.Excepted x) s) in
+    let held : AllByRecursion IsSound (x.base ∷ x.values ∷ []) = subst (AllByRecursion IsSound) (ap children_in (outs-Excepted x)) (sound_within (column.Excepted x) s) in
     held.1.0
 
 pub slots_held : (x : Excepted Column) → IsSound (column.Excepted x) → All IsSound x.slots
-slots_held x s =
-    let held : AllByRecursion IsSound (x.base ∷ x.values ∷ x.slots) = subst (AllByRecursion IsSound) (ap children_in (outs-Excepted x)) (sound_within (column.Excepted x) s) in
-    All-from_recursion IsSound x.slots held.1.1
+slots_held x s = All-from_recursion IsSound x.slots (subst (AllByRecursion IsSound) (ap flat_slots (outs-Excepted x)) (slots_within (column.Excepted x) s))
+
+pub offsets_held : (c : Chunked Column) → IsSound (column.Chunked c) → All IsSound c.slots
+offsets_held c s = All-from_recursion IsSound c.slots (subst (AllByRecursion IsSound) (ap flat_slots (outs-Chunked c)) (slots_within (column.Chunked c) s))
+
+pub lane_slots_held : (p : Patched Column) → IsSound (column.Patched p) → All IsSound p.slots
+lane_slots_held p s = All-from_recursion IsSound p.slots (subst (AllByRecursion IsSound) (ap flat_slots (outs-Patched p)) (slots_within (column.Patched p) s))
+
+pub selectors_held : (i : Interleave Column) → IsSound (column.Interleave i) → All IsSound i.slots
+selectors_held i s = All-from_recursion IsSound i.slots (subst (AllByRecursion IsSound) (ap flat_slots (outs-Interleave i)) (slots_within (column.Interleave i) s))
 
 pub interleaved_held : (i : Interleave Column) → IsSound (column.Interleave i) → All IsSound i.values
 interleaved_held i s = All-from_recursion IsSound i.values (subst (AllByRecursion IsSound) (ap children_in (outs-Interleave i)) (sound_within (column.Interleave i) s))
@@ -203,16 +248,21 @@ with_proofs_of (x ∷ xs) s = ap (λ ys. x ∷ ys) (with_proofs_of xs s.1)
 pub sound_flat : (rows : Flat) → IsFlat rows → IsSound (column.Flat rows)
 sound_flat rows h = subst IsSound (rolls-Flat rows) (every_made-Column IsSoundLayer (Column-F.Flat rows) (Column-F.Flat rows) refl h)
 
-pub chunked_made : (c : Chunked Column) → AreChunks c → All IsSound c.chunks → IsSound (column.Chunked c)
-chunked_made c h s =
+pub chunked_made : (c : Chunked Column) → AreChunks c → c.slots ≡ map column.Flat (offset_slots c.boundaries) → All IsSound c.chunks → All IsSound c.slots → IsSound (column.Chunked c)
+chunked_made c h slots s t =
     let all = recursion_from_All IsSound c.chunks s in
+    let each = recursion_from_All IsSound c.slots t in
     subst IsSound (rolls-Chunked c) (every_made-Column IsSoundLayer (Column-F.Chunked c)
-    (Column-F.Chunked record { dtype = c.dtype; boundaries = c.boundaries; chunks = with_proofs c.chunks all })
-    (ap (λ xs. Column-F.Chunked record { dtype = c.dtype; boundaries = c.boundaries; chunks = xs }) (with_proofs_of c.chunks all)) h)
+    (Column-F.Chunked record { dtype = c.dtype; boundaries = c.boundaries; chunks = with_proofs c.chunks all; slots = with_proofs c.slots each })
+    (ap (λ xs. Column-F.Chunked record { dtype = c.dtype; boundaries = c.boundaries; chunks = xs; slots = map (λ e. e.0) (with_proofs c.slots each) }) (with_proofs_of c.chunks all)
+        ∙ ap (λ ys. Column-F.Chunked record { dtype = c.dtype; boundaries = c.boundaries; chunks = c.chunks; slots = ys }) (with_proofs_of c.slots each)) (h, slots))
 
-pub patched_made : (p : Patched Column) → AreLanes p → IsSound p.inner → IsSound (column.Patched p)
-patched_made p h s = subst IsSound (rolls-Patched p) (every_made-Column IsSoundLayer (Column-F.Patched p)
-    (Column-F.Patched record { inner = (p.inner, s); lanes = p.lanes }) refl h)
+pub patched_made : (p : Patched Column) → AreLanes p → p.slots ≡ map column.Flat (lane_slots p.lanes) → IsSound p.inner → All IsSound p.slots → IsSound (column.Patched p)
+patched_made p h slots s t =
+    let each = recursion_from_All IsSound p.slots t in
+    subst IsSound (rolls-Patched p) (every_made-Column IsSoundLayer (Column-F.Patched p)
+    (Column-F.Patched record { inner = (p.inner, s); lanes = p.lanes; slots = with_proofs p.slots each })
+    (ap (λ ys. Column-F.Patched record { inner = p.inner; lanes = p.lanes; slots = ys }) (with_proofs_of p.slots each)) (h, slots))
 
 pub excepted_made : (x : Excepted Column) → AreExceptions x → x.slots ≡ map column.Flat (slots_in x.index) → IsSound x.base → IsSound x.values → All IsSound x.slots → IsSound (column.Excepted x)
 excepted_made x h slots b v s =
@@ -221,12 +271,14 @@ excepted_made x h slots b v s =
     (Column-F.Excepted record { base = (x.base, b); index = x.index; values = (x.values, v); slots = with_proofs x.slots all })
     (ap (λ xs. Column-F.Excepted record { base = x.base; index = x.index; values = x.values; slots = xs }) (with_proofs_of x.slots all)) (h, slots))
 
-pub interleaved_made : (i : Interleave Column) → AreInterleaved i → All IsSound i.values → IsSound (column.Interleave i)
-interleaved_made i h s =
+pub interleaved_made : (i : Interleave Column) → AreInterleaved i → i.slots ≡ map column.Flat (selector_slots i.selectors) → All IsSound i.values → All IsSound i.slots → IsSound (column.Interleave i)
+interleaved_made i h slots s t =
     let all = recursion_from_All IsSound i.values s in
+    let each = recursion_from_All IsSound i.slots t in
     subst IsSound (rolls-Interleave i) (every_made-Column IsSoundLayer (Column-F.Interleave i)
-    (Column-F.Interleave record { dtype = i.dtype; selectors = i.selectors; values = with_proofs i.values all })
-    (ap (λ xs. Column-F.Interleave record { dtype = i.dtype; selectors = i.selectors; values = xs }) (with_proofs_of i.values all)) h)
+    (Column-F.Interleave record { dtype = i.dtype; selectors = i.selectors; values = with_proofs i.values all; slots = with_proofs i.slots each })
+    (ap (λ xs. Column-F.Interleave record { dtype = i.dtype; selectors = i.selectors; values = xs; slots = map (λ e. e.0) (with_proofs i.slots each) }) (with_proofs_of i.values all)
+        ∙ ap (λ ys. Column-F.Interleave record { dtype = i.dtype; selectors = i.selectors; values = i.values; slots = ys }) (with_proofs_of i.slots each)) (h, slots))
 
 pub total_joined : (cs : List Column) → total (map len_of cs) ≡ length (joined (map rows_of cs))
 total_joined [] = refl
@@ -255,16 +307,16 @@ CostsSome x = 1 ≤ point_cost x
 some_layer : (y : Column-F ((x : Column) × CostsSome x)) → CostsSome (roll-Column (map-Column ((x : Column) × CostsSome x) Column (λ e. e.0) y))
 some_layer (Column-F.Flat rows) = subst CostsSome (sym (rolls-Flat rows)) (omega (arith, point_flat rows))
 some_layer (Column-F.Chunked c) =
-    let whole : Chunked Column = record { dtype = c.dtype; boundaries = c.boundaries; chunks = map (λ e. e.0) c.chunks } in
+    let whole : Chunked Column = record { dtype = c.dtype; boundaries = c.boundaries; chunks = map (λ e. e.0) c.chunks; slots = map (λ e. e.0) c.slots } in
     subst CostsSome (sym (rolls-Chunked whole)) (omega (arith, point_chunked whole, search_bound_positive (length (map point_cost whole.chunks))))
 some_layer (Column-F.Patched p) =
-    let whole : Patched Column = record { inner = p.inner.0; lanes = p.lanes } in
+    let whole : Patched Column = record { inner = p.inner.0; lanes = p.lanes; slots = map (λ e. e.0) p.slots } in
     subst CostsSome (sym (rolls-Patched whole)) (omega (arith, point_patched whole))
 some_layer (Column-F.Excepted x) =
     let whole : Excepted Column = record { base = x.base.0; index = x.index; values = x.values.0; slots = map (λ e. e.0) x.slots } in
     subst CostsSome (sym (rolls-Excepted whole)) (omega (arith, point_excepted whole, x.base.1))
 some_layer (Column-F.Interleave i) =
-    let whole : Interleave Column = record { dtype = i.dtype; selectors = i.selectors; values = map (λ e. e.0) i.values } in
+    let whole : Interleave Column = record { dtype = i.dtype; selectors = i.selectors; values = map (λ e. e.0) i.values; slots = map (λ e. e.0) i.slots } in
     subst CostsSome (sym (rolls-Interleave whole)) (omega (arith, point_interleave whole))
 
 pub point_least : (x : Column) → 1 ≤ point_cost x
@@ -278,16 +330,16 @@ all_known (e ∷ es) = and_from (is_plain e.0) (all_true (map is_plain (map (λ 
 plain_layer : (y : Column-F ((x : Column) × IsPlain x)) → IsPlain (roll-Column (map-Column ((x : Column) × IsPlain x) Column (λ e. e.0) y))
 plain_layer (Column-F.Flat rows) = subst IsPlain (sym (rolls-Flat rows)) (plain_flat rows)
 plain_layer (Column-F.Chunked c) =
-    let whole : Chunked Column = record { dtype = c.dtype; boundaries = c.boundaries; chunks = map (λ e. e.0) c.chunks } in
+    let whole : Chunked Column = record { dtype = c.dtype; boundaries = c.boundaries; chunks = map (λ e. e.0) c.chunks; slots = map (λ e. e.0) c.slots } in
     subst IsPlain (sym (rolls-Chunked whole)) (plain_chunked whole ∙ all_known c.chunks)
 plain_layer (Column-F.Patched p) =
-    let whole : Patched Column = record { inner = p.inner.0; lanes = p.lanes } in
+    let whole : Patched Column = record { inner = p.inner.0; lanes = p.lanes; slots = map (λ e. e.0) p.slots } in
     subst IsPlain (sym (rolls-Patched whole)) (plain_patched whole ∙ p.inner.1)
 plain_layer (Column-F.Excepted x) =
     let whole : Excepted Column = record { base = x.base.0; index = x.index; values = x.values.0; slots = map (λ e. e.0) x.slots } in
     subst IsPlain (sym (rolls-Excepted whole)) (plain_excepted whole ∙ and_from (is_plain x.base.0) (is_plain x.values.0) x.base.1 x.values.1)
 plain_layer (Column-F.Interleave i) =
-    let whole : Interleave Column = record { dtype = i.dtype; selectors = i.selectors; values = map (λ e. e.0) i.values } in
+    let whole : Interleave Column = record { dtype = i.dtype; selectors = i.selectors; values = map (λ e. e.0) i.values; slots = map (λ e. e.0) i.slots } in
     subst IsPlain (sym (rolls-Interleave whole)) (plain_interleave whole ∙ all_known i.values)
 
 pub each_plain : (x : Column) → IsPlain x

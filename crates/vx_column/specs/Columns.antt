@@ -14,6 +14,7 @@ use Rattle.vx_lanes.specs.Layouts.{overlaid, exceptions, chunk_row}
 use Rattle.vx_lanes.specs.declared.layout.Layout.{Layout}
 use Rattle.vx_interleave.specs.Selections.{Selection, pairs_of}
 use Rattle.vx_chunks.specs.Bounds.{total}
+use Rattle.vx_chunks.specs.Offsets.{offsets_of}
 use Rattle.vx_job.specs.Rows.{Rows, joined, excepted, interleaved, greatest, lane_reads}
 use Rattle.vx_column.specs.declared.excepted.Excepted.{Excepted}
 use Rattle.vx_column.specs.declared.patched.Patched.{Patched}
@@ -147,6 +148,18 @@ listed (Some chunk_offsets) = chunk_offsets ∷ []
 abbrev pub slots_in : Index → List Flat
 slots_in index = index.indices ∷ listed index.chunk_offsets
 
+-- the flat slot of chunks of these lengths: their boundaries
+abbrev pub offset_slots : List ℕ → List Flat
+offset_slots lens = offsets_of lens ∷ []
+
+-- those of a layout: its lane offsets, and the places and the values of its exceptions
+abbrev pub lane_slots : Layout → List Flat
+lane_slots layout = layout.lane_offsets ∷ layout.patch_indices ∷ layout.patch_values ∷ []
+
+-- those of selectors
+abbrev pub selector_slots : Selection → List Flat
+selector_slots selectors = selectors.array_indices ∷ selectors.row_indices ∷ []
+
 -- the inner column of lanes, and their layout
 abbrev pub inner_of : Patched Column → Column
 inner_of array = array.inner
@@ -190,14 +203,14 @@ AreExceptions e = AreExceptionKinds e.index (type_of e.base) (len_of e.base) (ty
 abbrev pub AreInterleaved : Interleave Column → Type 0
 AreInterleaved i = AreInterleaveKinds i.selectors i.dtype (map type_of i.values) (map len_of i.values)
 
--- flat rows fit their type, chunks and the parts of other columns are as they must be, and the slots of exceptions are
--- their places' own rows
+-- flat rows fit their type, chunks and the parts of other columns are as they must be, and the flat slots are columns
+-- over the rows of these parts
 abbrev pub IsSoundLayer : Column-F Column → Type 0
 IsSoundLayer (Column-F.Flat c) = IsFlat c
-IsSoundLayer (Column-F.Chunked chunked) = AreChunks chunked
-IsSoundLayer (Column-F.Patched patched) = AreLanes patched
+IsSoundLayer (Column-F.Chunked chunked) = AreChunks chunked × (chunked.slots ≡ map flat_column (offset_slots chunked.boundaries))
+IsSoundLayer (Column-F.Patched patched) = AreLanes patched × (patched.slots ≡ map flat_column (lane_slots patched.lanes))
 IsSoundLayer (Column-F.Excepted e) = AreExceptions e × (e.slots ≡ map flat_column (slots_in e.index))
-IsSoundLayer (Column-F.Interleave interleave) = AreInterleaved interleave
+IsSoundLayer (Column-F.Interleave interleave) = AreInterleaved interleave × (interleave.slots ≡ map flat_column (selector_slots interleave.selectors))
 
 -- so is each layer
 abbrev pub IsSound : Column → Type 0

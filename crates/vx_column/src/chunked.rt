@@ -11,9 +11,9 @@ ghost use Rattle.vx_chunks.specs.Causes.{SumCause};
 ghost use Rattle.vx_chunks.specs.Offsets.{offsets_of};
 ghost use Rattle.vx_chunks.specs.Plans.{IsPlanOf};
 ghost use Rattle.vx_column.specs.Columns.{rows_of, len_of, type_of, IsOf, IsSound, IsPlain, point_cost, cut_cost, select_bound};
-ghost use Rattle.vx_column.specs.Columns.{IsSliceOf, ChunksCause, chunks_of, declared_type, last_piece};
+ghost use Rattle.vx_column.specs.Columns.{IsSliceOf, ChunksCause, chunks_of, declared_type, last_piece, offset_slots};
 ghost use Rattle.vx_column.specs.Chunks.{IsMadeOf, FirstChunkCause, IsReduced, filled};
-ghost use Rattle.vx_column.specs.declared.column.Column.TheVariants.{Chunked as chunked_column};
+ghost use Rattle.vx_column.specs.declared.column.Column.TheVariants.{Chunked as chunked_column, Flat as flat_column};
 
 use crate::column::Column;
 use crate::iterators::{ChunkIter, NonEmptyChunks};
@@ -31,6 +31,8 @@ pub struct Chunked<C> {
     dtype: DType,
     boundaries: Boundaries,
     chunks: Shared<Seq<C>>,
+    // The boundaries, as a column over their rows.
+    slots: Shared<Seq<C>>,
 }
 
 impl<C: Drop> Drop for Chunked<C> {
@@ -39,9 +41,11 @@ impl<C: Drop> Drop for Chunked<C> {
             dtype: _,
             boundaries: _,
             chunks: _,
+            slots: _,
         } = self;
     }
 }
+
 /// A column of chunks that are columns.
 pub type ChunkedArray = Chunked<Column>;
 
@@ -55,6 +59,18 @@ fn all_of(columns: &[Column], dtype: &DType) -> bool
         }
     }
     true
+}
+
+/// A column over the rows of the boundaries.
+fn slots_over(alloc: Global, boundaries: &Boundaries) -> Res<Shared<Seq<Column>>>
+    ensures ok { IfOk result (λ slots. slots ≡ map flat_column (offset_slots boundaries.now)) }
+    ensures sound { IfOk result (λ slots. All IsSound slots) }
+    ensures err { IsOkUnless result ColumnError.OutOfMemory }
+{
+    let mut slots = Vec::new(alloc);
+    let offsets = boundaries.array().share()?;
+    slots.push(Column::flat(offsets))?;
+    Ok(Shared::new(alloc, Seq::from_vec(slots))?)
 }
 
 /// Where the columns lie in their rows.
@@ -115,10 +131,12 @@ impl Chunked<Column> {
         ensures err { IsOkUnless result ColumnError.OutOfMemory }
     {
         let chunks = Shared::new(alloc, Seq::from_vec(chunks))?;
+        let slots = slots_over(alloc, &boundaries)?;
         Ok(Chunked {
             dtype,
             boundaries,
             chunks,
+            slots,
         })
     }
 
@@ -130,10 +148,12 @@ impl Chunked<Column> {
         let dtype = self.dtype.copy()?;
         let boundaries = self.boundaries.share()?;
         let chunks = self.chunks.share()?;
+        let slots = self.slots.share()?;
         Ok(Chunked {
             dtype,
             boundaries,
             chunks,
+            slots,
         })
     }
 }
@@ -235,6 +255,24 @@ impl Chunked<Column> {
         ensures { result.now ≡ offsets_of (map len_of (chunks_of self.now)) }
     {
         self.boundaries().array()
+    }
+
+    /// The columns over the rows of the boundaries.
+    fn slots(&self) -> &[Column]
+        requires { IsSound (chunked_column self.now) }
+        ensures value { result.now ≡ map flat_column (offset_slots (map len_of (chunks_of self.now))) }
+        ensures sound { All IsSound result.now }
+    {
+        self.slots.get().as_slice()
+    }
+
+    /// The boundaries as a column, which shares their rows.
+    pub fn chunk_offsets_slot(&self) -> &Column
+        requires { IsSound (chunked_column self.now) }
+        ensures value { result.now ≡ flat_column (offsets_of (map len_of (chunks_of self.now))) }
+        ensures sound { IsSound result.now }
+    {
+        &self.slots()[0]
     }
 
     /// The boundaries of the chunks: 0 and the running sums of their lengths.

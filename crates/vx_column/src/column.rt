@@ -171,15 +171,15 @@ impl Column {
             Column::Chunked(chunked) => chunked.cut(alloc, start, end, steps),
             Column::Patched(patched) => patched.cut(alloc, start, end, steps),
             Column::Excepted(excepted) => excepted.cut(alloc, start, end, steps),
-            Column::Interleave(interleave) => interleave.cut(start, end),
+            Column::Interleave(interleave) => interleave.cut(alloc, start, end),
         }
     }
 }
 
 impl Column {
-    /// Row `at`, read by itself.
+    /// Row `at`, read by itself. Takes memory only where a row of the type does.
     #[cycle(row)]
-    pub(crate) fn row<L: Ledger>(&self, alloc: Global, at: usize, steps: &mut Steps<L>) -> Res<Row>
+    pub fn row<L: Ledger>(&self, alloc: Global, at: usize, steps: &mut Steps<L>) -> Res<Row>
         requires sound { IsSound self.now }
         requires inside { at < len_of self.now }
         ensures ok { IfOk result (λ row. row ≡ get_or (rows_of self.now) at None) }
@@ -197,9 +197,9 @@ impl Column {
         }
     }
 
-    /// Whether row `at` is a value.
+    /// Whether row `at` is a value. Takes no memory.
     #[cycle(is_valid)]
-    pub(crate) fn is_valid<L: Ledger>(&self, at: usize, steps: &mut Steps<L>) -> bool
+    pub fn is_valid<L: Ledger>(&self, at: usize, steps: &mut Steps<L>) -> bool
         requires sound { IsSound self.now }
         requires inside { at < len_of self.now }
         ensures value { result ≡ is_some (get_or (rows_of self.now) at None) }

@@ -5,8 +5,8 @@ ghost use Rattle.vx_rows.specs.Sizes.{type_takes_memory};
 ghost use Rattle.vx_interleave.specs.Selections.{selection};
 ghost use Rattle.vx_job.specs.Kinds.{AreInterleaveKinds};
 ghost use Rattle.vx_job.specs.Faults.{IsInterleaveFault, MadeCause};
-ghost use Rattle.vx_column.specs.Columns.{IsSound, IsPlain, IsSliceOf, type_of, rows_of, len_of, point_cost, interleaved_of, selectors_of};
-ghost use Rattle.vx_column.specs.declared.column.Column.TheVariants.{Interleave as interleave_column};
+ghost use Rattle.vx_column.specs.Columns.{IsSound, IsPlain, IsSliceOf, type_of, rows_of, len_of, point_cost, interleaved_of, selectors_of, selector_slots};
+ghost use Rattle.vx_column.specs.declared.column.Column.TheVariants.{Interleave as interleave_column, Flat as flat_column};
 
 use crate::column::Column;
 use crate::kinds::{
@@ -21,6 +21,8 @@ pub struct Interleave<C> {
     dtype: DType,
     selectors: Selectors,
     values: Shared<Seq<C>>,
+    // The selectors, as columns over their rows.
+    slots: Shared<Seq<C>>,
 }
 
 impl<C: Drop> Drop for Interleave<C> {
@@ -29,6 +31,7 @@ impl<C: Drop> Drop for Interleave<C> {
             dtype: _,
             selectors: _,
             values: _,
+            slots: _,
         } = self;
     }
 }
@@ -66,6 +69,20 @@ fn checked(
     Ok((dtype, selectors))
 }
 
+/// Columns over the rows of the selectors.
+fn slots_over(alloc: Global, selectors: &Selectors) -> Res<Shared<Seq<Column>>>
+    ensures ok { IfOk result (λ slots. slots ≡ map flat_column (selector_slots selectors.now)) }
+    ensures sound { IfOk result (λ slots. All IsSound slots) }
+    ensures err { IsOkUnless result ColumnError.OutOfMemory }
+{
+    let mut slots = Vec::new(alloc);
+    let array_indices = selectors.array_indices().share()?;
+    slots.push(Column::flat(array_indices))?;
+    let row_indices = selectors.row_indices().share()?;
+    slots.push(Column::flat(row_indices))?;
+    Ok(Shared::new(alloc, Seq::from_vec(slots))?)
+}
+
 impl Interleave<Column> {
     /// Row i is row `row_indices[i]` of value `array_indices[i]`. The type is the first value's, nullable where any is.
     /// Refuses `Unsupported` where a value holds neither booleans nor integers, or else by the first rule that is broken.
@@ -101,10 +118,12 @@ impl Interleave<Column> {
         ensures err { IsOkUnless result ColumnError.OutOfMemory }
     {
         let values = Shared::new(alloc, Seq::from_vec(values))?;
+        let slots = slots_over(alloc, &selectors)?;
         Ok(Interleave {
             dtype,
             selectors,
             values,
+            slots,
         })
     }
 
@@ -116,10 +135,12 @@ impl Interleave<Column> {
         let dtype = self.dtype.copy()?;
         let selectors = self.selectors.share()?;
         let values = self.values.share()?;
+        let slots = self.slots.share()?;
         Ok(Interleave {
             dtype,
             selectors,
             values,
+            slots,
         })
     }
 
@@ -154,6 +175,33 @@ impl Interleave<Column> {
         self.selectors.row_indices()
     }
 
+    /// The columns over the rows of the selectors.
+    fn slots(&self) -> &[Column]
+        requires { IsSound (interleave_column self.now) }
+        ensures value { result.now ≡ map flat_column (selector_slots (selectors_of self.now)) }
+        ensures sound { All IsSound result.now }
+    {
+        self.slots.get().as_slice()
+    }
+
+    /// The numbers of the values as a column, which shares their rows.
+    pub fn array_indices_slot(&self) -> &Column
+        requires { IsSound (interleave_column self.now) }
+        ensures value { result.now ≡ flat_column (selectors_of self.now).array_indices }
+        ensures sound { IsSound result.now }
+    {
+        &self.slots()[0]
+    }
+
+    /// The numbers of the rows in them as a column, which shares their rows.
+    pub fn row_indices_slot(&self) -> &Column
+        requires { IsSound (interleave_column self.now) }
+        ensures value { result.now ≡ flat_column (selectors_of self.now).row_indices }
+        ensures sound { IsSound result.now }
+    {
+        &self.slots()[1]
+    }
+
     /// The type of the rows.
     pub fn dtype(&self) -> &DType
         ensures { result.now ≡ type_of (interleave_column self.now) }
@@ -180,7 +228,7 @@ impl Interleave<Column> {
     }
 
     /// Rows `start` to below `end`, of the same values. Reads nothing.
-    pub(crate) fn cut(&self, start: usize, end: usize) -> Res<Column>
+    pub(crate) fn cut(&self, alloc: Global, start: usize, end: usize) -> Res<Column>
         requires sound { IsSound (interleave_column self.now) }
         requires ordered { start ≤ end }
         requires inside { end ≤ len_of (interleave_column self.now) }
@@ -190,10 +238,12 @@ impl Interleave<Column> {
         let dtype = self.dtype.copy()?;
         let selectors = self.selectors.window(start..end)?;
         let values = self.values.share()?;
+        let slots = slots_over(alloc, &selectors)?;
         Ok(Column::Interleave(Interleave {
             dtype,
             selectors,
             values,
+            slots,
         }))
     }
 

@@ -8,7 +8,6 @@ pub mod interleave;
 pub mod iterators;
 mod kinds;
 pub mod patched;
-pub mod probe;
 
 pub use chunked::{Chunked, ChunkedArray};
 pub use column::Column;
@@ -16,4 +15,3 @@ pub use excepted::{Excepted, ExceptedArray};
 pub use interleave::{Interleave, InterleaveArray};
 pub use iterators::{ChunkIter, NonEmptyChunks};
 pub use patched::{Patched, PatchedArray};
-pub use probe::ArrayProbe;

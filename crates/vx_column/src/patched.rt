@@ -1,16 +1,16 @@
 //! A column of integers with exceptions kept by lane over its rows.
 ghost use Rattle.std.specs.Prelude.{◌≡◌, ◌+◌, ◌++◌, ◌*◌, ◌-◌, ◌^◌, ◌<◌, ◌≤◌, ◌↔◌, length, min, get_or, None, is_some};
-ghost use Rattle.std.specs.Prelude.{IfOk, OnOk, IfErr, IsOk, IsOkUnless, IsTrue, IsFalse};
+ghost use Rattle.std.specs.Prelude.{IfOk, OnOk, IfErr, IsOk, IsOkUnless, IsTrue, IsFalse, All, map};
 ghost use Rattle.vx_rows.specs.Sizes.{type_takes_memory};
 ghost use Rattle.vx_base.specs.Ranges.{ends_cut};
 ghost use Rattle.vx_lanes.specs.Layouts.{IsLayout, layout, chunks_of, lane_start, overlaid, exceptions};
 ghost use Rattle.vx_job.specs.Kinds.{AreLaneKinds};
 ghost use Rattle.vx_job.specs.Faults.{IsLanesFault, MadeCause};
 ghost use Rattle.vx_column.specs.Columns.{IsSound, IsPlain, IsSliceOf, type_of, rows_of, len_of, point_cost, cut_cost};
-ghost use Rattle.vx_column.specs.Columns.{inner_of, lanes_of, first_covered, end_covered, select_bound};
+ghost use Rattle.vx_column.specs.Columns.{inner_of, lanes_of, lane_slots, first_covered, end_covered, select_bound};
 ghost use Rattle.vx_column.specs.LanesOver.{IsPatchedOf};
 ghost use Rattle.vx_job.specs.Rows.{lane_reads};
-ghost use Rattle.vx_column.specs.declared.column.Column.TheVariants.{Patched as patched_column};
+ghost use Rattle.vx_column.specs.declared.column.Column.TheVariants.{Patched as patched_column, Flat as flat_column};
 
 use crate::column::Column;
 use crate::kinds::{is_integer, unsupported};
@@ -25,11 +25,17 @@ use vx_lanes::layout::CHUNK;
 pub struct Patched<C> {
     inner: Shared<C>,
     lanes: Lanes,
+    // The lane offsets, and the places and the values of the exceptions, as columns over the rows of the lanes.
+    slots: Shared<Seq<C>>,
 }
 
 impl<C: Drop> Drop for Patched<C> {
     fn drop(self) {
-        let Patched { inner: _, lanes: _ } = self;
+        let Patched {
+            inner: _,
+            lanes: _,
+            slots: _,
+        } = self;
     }
 }
 
@@ -86,7 +92,12 @@ impl Patched<Column> {
         ensures err { IsOkUnless result ColumnError.OutOfMemory }
     {
         let inner = Shared::new(alloc, inner)?;
-        Ok(Patched { inner, lanes })
+        let slots = slots_over(alloc, &lanes)?;
+        Ok(Patched {
+            inner,
+            lanes,
+            slots,
+        })
     }
 
     /// The same, as a column.
@@ -107,7 +118,12 @@ impl Patched<Column> {
     {
         let inner = self.inner.share()?;
         let lanes = self.lanes.share()?;
-        Ok(Patched { inner, lanes })
+        let slots = self.slots.share()?;
+        Ok(Patched {
+            inner,
+            lanes,
+            slots,
+        })
     }
 
     /// The type of the rows.
@@ -175,6 +191,42 @@ impl Patched<Column> {
         self.lanes.patch_values()
     }
 
+    /// The columns over the rows of the lanes.
+    fn slots(&self) -> &[Column]
+        requires { IsSound (patched_column self.now) }
+        ensures value { result.now ≡ map flat_column (lane_slots (lanes_of self.now)) }
+        ensures sound { All IsSound result.now }
+    {
+        self.slots.get().as_slice()
+    }
+
+    /// The lane offsets as a column, which shares their rows.
+    pub fn lane_offsets_slot(&self) -> &Column
+        requires { IsSound (patched_column self.now) }
+        ensures value { result.now ≡ flat_column (lanes_of self.now).lane_offsets }
+        ensures sound { IsSound result.now }
+    {
+        &self.slots()[0]
+    }
+
+    /// The places of the exceptions as a column, which shares their rows.
+    pub fn patch_indices_slot(&self) -> &Column
+        requires { IsSound (patched_column self.now) }
+        ensures value { result.now ≡ flat_column (lanes_of self.now).patch_indices }
+        ensures sound { IsSound result.now }
+    {
+        &self.slots()[1]
+    }
+
+    /// The values of the exceptions as a column, which shares their rows.
+    pub fn patch_values_slot(&self) -> &Column
+        requires { IsSound (patched_column self.now) }
+        ensures value { result.now ≡ flat_column (lanes_of self.now).patch_values }
+        ensures sound { IsSound result.now }
+    {
+        &self.slots()[2]
+    }
+
     /// Where the exceptions of a chunk's lane stand. Raises the steps by two.
     pub fn lane_range<L: Ledger>(
         &self,
@@ -212,6 +264,22 @@ impl Patched<Column> {
         let array = Patched::of(alloc, inner, lanes)?;
         Ok(array)
     }
+}
+
+/// Columns over the rows of the lanes: the lane offsets, and the places and the values of the exceptions.
+fn slots_over(alloc: Global, lanes: &Lanes) -> Res<Shared<Seq<Column>>>
+    ensures ok { IfOk result (λ slots. slots ≡ map flat_column (lane_slots lanes.now)) }
+    ensures sound { IfOk result (λ slots. All IsSound slots) }
+    ensures err { IsOkUnless result ColumnError.OutOfMemory }
+{
+    let mut slots = Vec::new(alloc);
+    let lane_offsets = lanes.lane_offsets().share()?;
+    slots.push(Column::flat(lane_offsets))?;
+    let patch_indices = lanes.patch_indices().share()?;
+    slots.push(Column::flat(patch_indices))?;
+    let patch_values = lanes.patch_values().share()?;
+    slots.push(Column::flat(patch_values))?;
+    Ok(Shared::new(alloc, Seq::from_vec(slots))?)
 }
 
 impl Patched<Column> {

@@ -15,4 +15,4 @@ returns-clause-sound c =
       fits = subst (λ (xs : List Column). total (map len_of xs) < 2 ^ 64) (sym same) c.requires.fits;
       types = subst (All (IsOf c.args.dtype)) (sym same) c.requires.types;
     }
-    (subst (All IsSound) (sym same) c.requires.sound)
+    c.in_ok-slots.ensures.ok (subst (All IsSound) (sym same) c.requires.sound) c.in_ok-slots.ensures.sound

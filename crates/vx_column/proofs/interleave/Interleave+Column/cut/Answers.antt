@@ -9,4 +9,4 @@ window-requires-clause-inside c =
     omega (arith, c.requires.inside, len_interleaved self (interleaved_here self c.requires.sound).sound)
 
 pub returns-clause-ok : goal.returns-clause-ok
-returns-clause-ok c = cut_interleaved c.args.self.now _ c.args.start c.args.end c.requires.sound c.in_ok-dtype.ensures.ok c.in_ok-selectors.ensures.ok c.in_ok-values.ensures
+returns-clause-ok c = cut_interleaved c.args.self.now _ c.args.start c.args.end c.requires.sound c.in_ok-dtype.ensures.ok c.in_ok-selectors.ensures.ok c.in_ok-values.ensures c.in_ok-slots.ensures.ok c.in_ok-slots.ensures.sound

@@ -10,4 +10,4 @@ pub returns-clause-sound : goal.returns-clause-sound
 returns-clause-sound c =
     let e = c.in_ok-values.ensures ∙ c.from_vec.ensures in
     let fits = subst (λ (xs : List Column). AreInterleaveKinds c.args.selectors c.args.dtype (map type_of xs) (map len_of xs)) (sym e) c.requires.kinds in
-    interleaved_made _ fits (subst (All IsSound) (sym e) c.requires.sound)
+    interleaved_made _ fits c.in_ok-slots.ensures.ok (subst (All IsSound) (sym e) c.requires.sound) c.in_ok-slots.ensures.sound

@@ -8,4 +8,4 @@ pub returns-clause-sound : goal.returns-clause-sound
 returns-clause-sound c =
     let e = c.in_ok-inner.ensures in
     let fits = subst (λ i. AreLaneKinds c.args.lanes (type_of i) (len_of i)) (sym e) c.requires.kinds in
-    patched_made _ fits (subst IsSound (sym e) c.requires.inner)
+    patched_made _ fits c.in_ok-slots.ensures.ok (subst IsSound (sym e) c.requires.inner) c.in_ok-slots.ensures.sound
