@@ -1,5 +1,5 @@
 -- A step that looks values up is free, or some error is true of it.
-use Rattle.std.proofs.Common.{◌≡◌, ◌≢◌, ◌⊎◌, inl, inr, ℕ, zero, suc, ◌+◌, ◌<◌, List, [], ◌∷◌, length, get_or, refl, arith, Option, Some, None, IsFalse}
+use Rattle.std.proofs.Common.{◌≡◌, ◌≢◌, ◌⊎◌, inl, inr, ℕ, zero, suc, ◌+◌, ◌<◌, List, [], ◌∷◌, length, get_or, refl, sym, ap, ◌∙◌, arith, Option, Some, None, IsFalse}
 use Rattle.std.specs.declared.cmp.Ordering.{Ordering}
 use Rattle.std.specs.declared.cmp.Ordering.TheVariants.{Less, Equal, Greater}
 use Rattle.vx_rows.specs.Order.{row_cmp}
@@ -26,6 +26,15 @@ greater_decided Less = inr (λ h. cc)
 greater_decided Equal = inr (λ h. cc)
 greater_decided Greater = inl refl
 
+next_row : (a : Option Value) (rows : Rows) (i : ℕ) → get_or (a ∷ rows) (suc i + 1) None ≡ get_or rows (i + 1) None
+next_row a rows i = let e : suc i + 1 ≡ suc (i + 1) = omega arith in ap (λ k. get_or (a ∷ rows) k None) e
+
+falls_later : (a : Option Value) (rows : Rows) (i : ℕ) → FallsAt rows i → FallsAt (a ∷ rows) (suc i)
+falls_later a rows i (short, above) = (omega arith, ap (λ r. row_cmp (get_or rows i None) r) (next_row a rows i) ∙ above)
+
+falls_in_rest : (a : Option Value) (rows : Rows) (i : ℕ) → FallsAt (a ∷ rows) (suc i) → FallsAt rows i
+falls_in_rest a rows i (short, above) = (omega arith, ap (λ r. row_cmp (get_or rows i None) r) (sym (next_row a rows i)) ∙ above)
+
 falls_or_ascends : (rows : Rows) → IsAscending rows ⊎ ((i : ℕ) × FallsAt rows i)
 falls_or_ascends [] = inl (λ i falls. let h = falls.0 in omega arith)
 falls_or_ascends (a ∷ []) = inl (λ i falls. let h = falls.0 in omega arith)
@@ -33,13 +42,13 @@ falls_or_ascends (a ∷ (b ∷ rows)) = by (greater_decided (row_cmp a b)) (fall
   where
     both : (row_cmp a b ≡ Greater → ⊥) → IsAscending (b ∷ rows) → IsAscending (a ∷ (b ∷ rows))
     both first rest zero falls = first falls.1
-    both first rest (suc i) falls = let h = falls.0 in rest i (omega arith, falls.1)
+    both first rest (suc i) falls = rest i (falls_in_rest a (b ∷ rows) i falls)
 
     by : Decided (row_cmp a b ≡ Greater) → IsAscending (b ∷ rows) ⊎ ((i : ℕ) × FallsAt (b ∷ rows) i)
         → IsAscending (a ∷ (b ∷ rows)) ⊎ ((i : ℕ) × FallsAt (a ∷ (b ∷ rows)) i)
     by (inl above) rest = inr (0, (omega arith, above))
     by (inr first) (inl rest) = inl (both first rest)
-    by (inr first) (inr (i, (short, above))) = inr (suc i, (omega arith, above))
+    by (inr first) (inr (i, falls)) = inr (suc i, falls_later a (b ∷ rows) i falls)
 
 order_free : (rows : Rows) → IsAscending rows → NoneOf (IsOrderError rows)
 order_free rows ascends e error = let falls = error.1 in ascends falls.0 falls.1
