@@ -82,6 +82,11 @@ def ordered(dtype, row):
     return int(row)
 
 
+def place_key(dtype, row):
+    """What a row is sorted by: a null comes before all else."""
+    return (False,) if row is None else (True, ordered(dtype, row))
+
+
 def ceiling(a, b):
     return -(-a // b)
 
@@ -305,6 +310,18 @@ def cast_errors(column, target):
     return [refusal("BadCast", row=i) for i in range(column.length) if not fits(target, column.row(i))]
 
 
+def contains_errors(sources, column, source):
+    if source >= len(sources):
+        return [refusal("UnknownColumn", number=source)]
+    return unlike(column.dtype, sources[source].dtype)
+
+
+def search_errors(column, value):
+    keys = [place_key(column.dtype, row) for row in rows_at(column, range(column.length))]
+    falls = any(a > b for a, b in zip(keys, keys[1:]))
+    return unlike(column.dtype, value["type"]) + ([refusal("Unsorted")] if falls else [])
+
+
 def errors(sources, column, step):
     """All errors that are true of a step."""
     if "slice" in step:
@@ -323,6 +340,10 @@ def errors(sources, column, step):
         return cast_errors(column, step["cast"])
     if "compare" in step:
         return unlike(column.dtype, step["value"]["type"])
+    if "search" in step:
+        return search_errors(column, step["value"])
+    if "contains" in step:
+        return contains_errors(sources, column, step["contains"])
     if "take" in step:
         return outside(column, [i for i in step["take"] if i is not None])
     last_rows = [start + length - 1 for start, length in step["runs"] if length > 0]
@@ -373,6 +394,34 @@ def left(sources, column, step):
     return column
 
 
+# ---- what steps answer
+
+
+def place(column, side, value):
+    """How many rows are below the value, or aren't above it, and whether one is equal."""
+    key = place_key(value["type"], value["row"])
+    keys = [place_key(column.dtype, row) for row in rows_at(column, range(column.length))]
+    before = sum(other < key or (side == "right" and other == key) for other in keys)
+    return {"found" if key in keys else "not_found": before}
+
+
+def bits(column, other):
+    """For each row whether an equal one is among those of the other."""
+    held = [ordered(other.dtype, row) for row in rows_at(other, range(other.length)) if row is not None]
+    return [None if row is None else ordered(column.dtype, row) in held for row in rows_at(column, range(column.length))]
+
+
+def answers_of(sources, column, step):
+    """The answer of a step of which no error is true, as a list, which is empty for a step that gives none."""
+    if "points" in step:
+        return [{"rows": rows_at(column, step["points"])}]
+    if "search" in step:
+        return [place(column, step["search"], step["value"])]
+    if "contains" in step:
+        return [{"bits": bits(column, sources[step["contains"]])}]
+    return []
+
+
 # ---- the right replies to a job
 
 
@@ -391,9 +440,8 @@ def replies(job):
         wrong = errors(sources, column, step)
         if wrong:
             return wrong
+        answers += answers_of(sources, column, step)
         column = left(sources, column, step)
-        if "points" in step:
-            answers.append({"rows": rows_at(column, step["points"])})
     return [{"answers": answers, "rows": rows_at(column, range(column.length)), "type": column.dtype}]
 
 
@@ -631,6 +679,22 @@ def random_compare(rng, dtype, length):
     return {"compare": rng.choice(list(OPERATORS)), "value": value}, widened("bool", wide), length
 
 
+def random_search(rng, sources, dtype, length):
+    """Often for a row of part 0."""
+    value = random_value(rng, dtype, True)
+    if sources and sources[0].length and kind(sources[0].dtype) == kind(dtype) and rng.random() < 0.6:
+        value = {"type": sources[0].dtype, "row": sources[0].row(rng.randrange(min(sources[0].length, 20)))}
+    return {"search": rng.choice(("left", "right")), "value": value}, dtype, length
+
+
+def random_contains(rng, sources, dtype, length):
+    """Most times in a part of this kind, where there is one with few rows; the part itself is one."""
+    short = [number for number, source in enumerate(sources) if source.length <= 3000]
+    alike = [number for number in short if kind(sources[number].dtype) == kind(dtype)]
+    named = alike if alike and rng.random() < 0.9 else [*short, len(sources), LAST]
+    return {"contains": rng.choice(named)}, dtype, length
+
+
 def random_zip(rng, sources, dtype, length):
     """Most times with a part that has as many rows of this kind, where there is one."""
     partners = [number for number, source in enumerate(sources) if (kind(source.dtype), source.length) == (kind(dtype), length)]
@@ -646,6 +710,7 @@ def random_plan(rng, sources, dtype, length):
         if length <= 3000:
             draws += [random_filter, random_filter, random_mask, random_fill, random_cast, random_compare]
             draws += [functools.partial(random_zip, sources=sources)] * (3 if len(sources) > 1 else 1)
+            draws += [functools.partial(asked, sources=sources) for asked in (random_search, random_contains)]
         step, dtype, length = rng.choice(draws)(rng, dtype=dtype, length=length)
         plan.append(step)
     if length > 3000:
@@ -667,10 +732,19 @@ def random_partner(rng, part):
     return {"chunked": dtype, "chunks": chunks} if rng.random() < 0.7 else flat(rng, dtype, length)
 
 
+def random_sorted(rng, dtype):
+    """A part of sorted rows, which can be searched."""
+    rows = sorted(flat(rng, dtype, rng.choice((1, 4, 9, 30)))["rows"], key=lambda row: place_key(dtype, row))
+    cut = rng.randint(0, len(rows))
+    chunks = [{"flat": dtype, "rows": held} for held in (rows[:cut], rows[cut:])]
+    return {"chunked": dtype, "chunks": chunks} if rng.random() < 0.7 else {"flat": dtype, "rows": rows}
+
+
 def random_job(rng):
     parts = []
     for _ in range(rng.choice((1,) * 12 + (2, 2, 3, 0))):
-        part = random_part(rng, random_type(rng, KINDS), rng.randint(0, 3))
+        dtype = random_type(rng, KINDS)
+        part = random_sorted(rng, dtype) if rng.random() < 0.15 else random_part(rng, dtype, rng.randint(0, 3))
         if rng.random() < 0.3:
             changed(rng, part)
         parts.append(part)
