@@ -1,5 +1,5 @@
 -- A step that makes each row of another is free, or some error is true of it.
-use Rattle.std.proofs.Common.{◌≡◌, ◌≢◌, ◌⊎◌, inl, inr, ℕ, zero, suc, ◌<◌, List, [], ◌∷◌, length, get_or, refl, sym, ◌∙◌, arith, Bool, true, false, Option, Some, None, IsTrue, IsFalse}
+use Rattle.std.proofs.Common.{◌≡◌, ◌≢◌, ◌⊎◌, inl, inr, ℕ, zero, suc, ◌<◌, [], ◌∷◌, length, get_or, refl, arith, Bool, true, false, Option, Some, None, IsTrue, IsFalse}
 use Rattle.std.proofs.lemmas.Bool.{and_parts}
 use Rattle.vx_rows.specs.Fits.{row_fits, rows_fit}
 use Rattle.vx_rows.specs.Types.{AlikeTypes, is_nested}
