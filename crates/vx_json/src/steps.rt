@@ -201,9 +201,7 @@ fn side_of(value: &Value, trail: &Trail<'_>) -> Result<SearchSortedSide, Unread>
     let text = text_of(value, trail)?;
     match side_named(text) {
         Some(side) => Ok(side),
-        None => Err(Unread::NoForm(
-            trail.no_text(text, "side: expected \"left\" or \"right\""),
-        )),
+        None => Err(Unread::NoForm(trail.no_text(text, "side: expected \"left\" or \"right\""))),
     }
 }
 
