@@ -80,6 +80,19 @@ impl Column {
         }
     }
 
+    /// Hands over each row of a range in order, that of a constant once.
+    pub fn each_kept<'a>(&'a self, range: Range<usize>, out: &mut impl FnMut(Scalar<'a>)) {
+        match self {
+            Column::Constant { row, .. } if !range.is_empty() => out(row.get(0)),
+            Column::Chunked(chunked) => {
+                for (number, part) in chunked.pieces(range) {
+                    chunked.chunks[number].each_kept(part, out);
+                }
+            }
+            _ => range.for_each(|i| out(self.get(i))),
+        }
+    }
+
     /// The rows of a range, changed into rows of a type. What changes flat rows is told the number of the first, counted from the
     /// front of the range. A constant stays one.
     pub fn changed<E>(

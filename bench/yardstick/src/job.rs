@@ -53,6 +53,20 @@ pub enum Step {
         operator: Operator,
         value: Flat,
     },
+    Search {
+        side: Side,
+        value: Flat,
+    },
+    Contains {
+        source: usize,
+    },
+}
+
+/// In front of equal rows or behind them.
+#[derive(Clone, Copy)]
+pub enum Side {
+    Left,
+    Right,
 }
 
 /// How a row is compared with a value.
@@ -190,6 +204,14 @@ fn operator(json: &Value) -> Option<Operator> {
     }
 }
 
+fn side(json: &Value) -> Option<Side> {
+    match json.as_str()? {
+        "left" => Some(Side::Left),
+        "right" => Some(Side::Right),
+        _ => None,
+    }
+}
+
 fn step(json: &Value) -> Option<Step> {
     let map = json.as_object()?;
     if map.contains_key("slice") {
@@ -207,11 +229,11 @@ fn step(json: &Value) -> Option<Step> {
         let map = object(json, 2)?;
         Some(Step::Runs { runs: list(map, "runs", pair)?, len: whole(map.get("len")?)? })
     } else {
-        elementwise(json, map)
+        other_step(json, map)
     }
 }
 
-fn elementwise(json: &Value, map: &Map<String, Value>) -> Option<Step> {
+fn other_step(json: &Value, map: &Map<String, Value>) -> Option<Step> {
     if map.contains_key("mask") {
         Some(Step::Mask { flags: list(object(json, 1)?, "mask", Value::as_bool)? })
     } else if map.contains_key("zip") {
@@ -221,9 +243,14 @@ fn elementwise(json: &Value, map: &Map<String, Value>) -> Option<Step> {
         Some(Step::Fill { value: value(object(json, 1)?.get("fill")?)? })
     } else if map.contains_key("cast") {
         Some(Step::Cast { target: DType::from_json(object(json, 1)?.get("cast")?)? })
-    } else {
+    } else if map.contains_key("compare") {
         let map = object(json, 2)?;
         let operator = operator(map.get("compare")?)?;
         Some(Step::Compare { operator, value: value(map.get("value")?)? })
+    } else if map.contains_key("search") {
+        let map = object(json, 2)?;
+        Some(Step::Search { side: side(map.get("search")?)?, value: value(map.get("value")?)? })
+    } else {
+        Some(Step::Contains { source: whole(object(json, 1)?.get("contains")?)? })
     }
 }

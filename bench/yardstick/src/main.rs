@@ -8,6 +8,7 @@ mod flat;
 mod index;
 mod job;
 mod layout;
+mod lookup;
 mod open;
 mod plan;
 mod refusal;

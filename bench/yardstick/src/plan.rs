@@ -5,15 +5,18 @@ use crate::dtype::DType;
 use crate::elementwise;
 use crate::flat::{Flat, Scalar};
 use crate::job::{Job, Step};
+use crate::lookup::{self, Place};
 use crate::open::open;
 use crate::refusal::Refusal;
 use serde::ser::{Serialize, SerializeMap, Serializer};
 use std::ops::Range;
 use std::rc::Rc;
 
-/// Rows that a step read.
-pub struct Answer {
-    rows: Flat,
+/// What a step answers: the rows that it read, the place that it found, or a truth for each row.
+pub enum Answer {
+    Rows(Flat),
+    Place(Place),
+    Bits(Flat),
 }
 
 pub struct Page {
@@ -51,6 +54,15 @@ pub fn run(job: Job) -> Result<Page, Refusal> {
             Step::Cast { target } => Rows::of_column(elementwise::cast(&rows.column, rows.range, *target)?),
             Step::Compare { operator, value } => {
                 Rows::of_column(elementwise::compare(&rows.column, rows.range, *operator, value)?)
+            }
+            Step::Search { side, value } => {
+                answers.push(Answer::Place(lookup::search(&rows.column, rows.range.clone(), *side, value)?));
+                rows
+            }
+            Step::Contains { source } => {
+                let other = source_of(&columns, *source)?;
+                answers.push(Answer::Bits(lookup::contains(&rows.column, rows.range.clone(), other)?));
+                rows
             }
         };
     }
@@ -112,7 +124,7 @@ impl Rows {
         for point in points {
             rows.push(self.column.get(self.place(*point)?));
         }
-        Ok(Answer { rows })
+        Ok(Answer::Rows(rows))
     }
 
     fn filter(self, flags: &[bool]) -> Result<Rows, Refusal> {
@@ -205,7 +217,13 @@ fn clamped(number: u128) -> usize {
 impl Serialize for Answer {
     fn serialize<S: Serializer>(&self, serializer: S) -> Result<S::Ok, S::Error> {
         let mut map = serializer.serialize_map(Some(1))?;
-        map.serialize_entry("rows", &self.rows)?;
+        match self {
+            Answer::Rows(rows) => map.serialize_entry("rows", rows)?,
+            Answer::Place(place) => {
+                map.serialize_entry(if place.is_found { "found" } else { "not_found" }, &place.number)?;
+            }
+            Answer::Bits(bits) => map.serialize_entry("bits", bits)?,
+        }
         map.end()
     }
 }

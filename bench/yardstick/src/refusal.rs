@@ -11,6 +11,7 @@ pub enum Refusal {
     LengthMismatch { expected: usize, found: usize },
     MismatchedTypes,
     BadCast { row: usize },
+    Unsorted,
 }
 
 impl Refusal {
@@ -32,6 +33,7 @@ impl Refusal {
             }
             Refusal::MismatchedTypes => json!({"error": "MismatchedTypes"}),
             Refusal::BadCast { row } => json!({"error": "BadCast", "row": row}),
+            Refusal::Unsorted => json!({"error": "Unsorted"}),
         }
     }
 }

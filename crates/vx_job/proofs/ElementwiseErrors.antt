@@ -1,5 +1,5 @@
 -- A step that makes each row of another is free, or some error is true of it.
-use Rattle.std.proofs.Common.{◌≡◌, ◌≢◌, ◌⊎◌, inl, inr, ℕ, zero, suc, ◌<◌, List, [], ◌∷◌, length, get_or, refl, sym, ◌∙◌, arith, Bool, true, false, Option, Some, None, IsTrue, IsFalse}
+use Rattle.std.proofs.Common.{◌≡◌, ◌≢◌, ◌⊎◌, inl, inr, ℕ, zero, suc, ◌<◌, [], ◌∷◌, length, get_or, refl, arith, Bool, true, false, Option, Some, None, IsTrue, IsFalse}
 use Rattle.std.proofs.lemmas.Bool.{and_parts}
 use Rattle.vx_rows.specs.Fits.{row_fits, rows_fit}
 use Rattle.vx_rows.specs.Types.{AlikeTypes, is_nested}
@@ -26,7 +26,7 @@ no_types h = cc
 no_cast : (row : ℕ) → BadCast row ≢ OutOfMemory
 no_cast row h = cc
 
-no_column : (source : ℕ) → UnknownColumn source ≢ OutOfMemory
+pub no_column : (source : ℕ) → UnknownColumn source ≢ OutOfMemory
 no_column source h = cc
 
 no_support : (number : ℕ) → UnsupportedStep number ≢ OutOfMemory
@@ -43,31 +43,31 @@ not_both b f t = cc
 abbrev Either : (ColumnError → Type 0) → (ColumnError → Type 0) → ColumnError → Type 0
 Either First Second e = First e ⊎ Second e
 
-either_free : (First Second : ColumnError → Type 0) → NoneOf First → NoneOf Second → NoneOf (Either First Second)
+pub either_free : (First Second : ColumnError → Type 0) → NoneOf First → NoneOf Second → NoneOf (Either First Second)
 either_free First Second none other e (inl error) = none e error
 either_free First Second none other e (inr error) = other e error
 
-either_judged : (First Second : ColumnError → Type 0) → Judged First → Judged Second → Judged (Either First Second)
+pub either_judged : (First Second : ColumnError → Type 0) → Judged First → Judged Second → Judged (Either First Second)
 either_judged First Second (inr (e, some, error)) second = inr (e, some, inl error)
 either_judged First Second (inl none) (inr (e, some, error)) = inr (e, some, inr error)
 either_judged First Second (inl none) (inl other) = inl (either_free First Second none other)
 
 -- ---- types
 
-nested_free : (number : ℕ) (t : DType) → IsFalse (is_nested t) → NoneOf (IsNestedError number t)
+pub nested_free : (number : ℕ) (t : DType) → IsFalse (is_nested t) → NoneOf (IsNestedError number t)
 nested_free number t plain e error = not_both (is_nested t) plain error.1
 
-nested_judged : (number : ℕ) (t : DType) → Judged (IsNestedError number t)
+pub nested_judged : (number : ℕ) (t : DType) → Judged (IsNestedError number t)
 nested_judged number t = by (decided (is_nested t))
   where
     by : (IsTrue (is_nested t)) ⊎ (IsFalse (is_nested t)) → Judged (IsNestedError number t)
     by (inl nested) = inr (UnsupportedStep number, no_support number, (refl, nested))
     by (inr plain) = inl (nested_free number t plain)
 
-type_free : (t other : DType) → AlikeTypes t other → NoneOf (IsTypeError t other)
+pub type_free : (t other : DType) → AlikeTypes t other → NoneOf (IsTypeError t other)
 type_free t other alike e error = error.1 alike
 
-type_judged : (t other : DType) → Judged (IsTypeError t other)
+pub type_judged : (t other : DType) → Judged (IsTypeError t other)
 type_judged t other = by (alike_decided t other)
   where
     by : Decided (AlikeTypes t other) → Judged (IsTypeError t other)

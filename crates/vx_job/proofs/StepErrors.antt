@@ -6,11 +6,12 @@ use Rattle.vx_rows.specs.declared.error.ColumnError.{ColumnError}
 use Rattle.vx_rows.specs.declared.error.ColumnError.TheVariants.{OutOfMemory, BadRange, OutOfBounds}
 use Rattle.vx_base.specs.Column.{Flat}
 use Rattle.vx_job.specs.declared.step.Step.{Step}
-use Rattle.vx_job.specs.declared.step.Step.TheVariants.{Slice, Points, Filter, Take, Runs, Mask, Zip, Fill, Cast, Compare}
+use Rattle.vx_job.specs.declared.step.Step.TheVariants.{Slice, Points, Filter, Take, Runs, Mask, Zip, Fill, Cast, Compare, Search, Contains}
 use Rattle.vx_job.specs.Steps.{IsFree, AreInside, IsPointsError}
 use Rattle.vx_job.specs.Laws.{HasError}
 use Rattle.vx_job.proofs.SelectionErrors.{length_judged, take_judged, runs_judged}
 use Rattle.vx_job.proofs.ElementwiseErrors.{zip_judged, fill_judged, cast_judged, compare_judged}
+use Rattle.vx_job.proofs.LookupErrors.{search_judged, contains_judged}
 
 abbrev Judged : List Flat → ℕ → Flat → Step → Type 0
 Judged sources number c step = IsFree sources number c step ⊎ HasError sources number c step
@@ -73,3 +74,5 @@ step_judged sources number c (Zip source choice) = zip_judged source (slice_get 
 step_judged sources number c (Fill value) = fill_judged number c.dtype value
 step_judged sources number c (Cast target) = cast_judged number c.dtype c.rows target
 step_judged sources number c (Compare op value) = compare_judged number c.dtype value.dtype
+step_judged sources number c (Search value side) = search_judged number c.dtype c.rows value.dtype
+step_judged sources number c (Contains source) = contains_judged source (slice_get sources source) c.dtype

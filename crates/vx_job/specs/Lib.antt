@@ -5,6 +5,7 @@ pub mod Faults
 pub mod Parts
 pub mod Selections
 pub mod Elementwise
+pub mod Lookups
 pub mod Steps
 pub mod Plans
 pub mod Laws

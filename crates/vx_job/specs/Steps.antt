@@ -6,18 +6,22 @@ use Rattle.vx_rows.specs.Types.{is_nested}
 use Rattle.vx_rows.specs.declared.dtype.DType.{DType}
 use Rattle.vx_rows.specs.declared.error.ColumnError.{ColumnError}
 use Rattle.vx_rows.specs.declared.error.ColumnError.TheVariants.{BadRange, OutOfBounds}
+use Rattle.vx_rows.specs.Order.{row_cmp}
 use Rattle.vx_base.specs.Column.{Flat, flat}
 use Rattle.vx_masks.specs.Bits.{count_true}
 use Rattle.vx_bulk.specs.Selections.{kept, picked as picked_where, joined_runs, masked}
 use Rattle.vx_bulk.specs.Types.{taken_type, nullable}
 use Rattle.vx_scalars.specs.Elementwise.{filled, filled_type, compared, compared_type}
+use Rattle.vx_search.specs.Answers.{standing}
+use Rattle.vx_search.specs.Places.{place}
 use Rattle.vx_job.specs.declared.step.Step.{Step}
-use Rattle.vx_job.specs.declared.step.Step.TheVariants.{Slice, Points, Filter, Take, Runs, Mask, Zip, Fill, Cast, Compare}
+use Rattle.vx_job.specs.declared.step.Step.TheVariants.{Slice, Points, Filter, Take, Runs, Mask, Zip, Fill, Cast, Compare, Search, Contains}
 use Rattle.vx_job.specs.declared.page.Answer.{Answer}
 use Rattle.vx_job.specs.declared.page.Answer.TheVariants as answer
 use Rattle.vx_job.specs.Rows.{picked}
 use Rattle.vx_job.specs.Selections.{IsLengthError, IsTakeError, IsRunsError}
 use Rattle.vx_job.specs.Elementwise.{IsNestedError, IsTypeError, IsFillError, IsCastError, IsZipError, zipped}
+use Rattle.vx_job.specs.Lookups.{IsSearchError, IsContainsError, contained}
 
 -- the type and the rows that a step leaves
 abbrev pub step_leaves : List Flat → Flat → Step → Flat
@@ -31,6 +35,8 @@ step_leaves sources c (Zip source choice) = zipped c (slice_get sources source) 
 step_leaves sources c (Fill value) = flat (filled_type c.dtype) (filled value.row c.rows)
 step_leaves sources c (Cast target) = flat target c.rows
 step_leaves sources c (Compare op value) = flat (compared_type c.dtype value.dtype) (compared op value.row c.rows)
+step_leaves sources c (Search value side) = c
+step_leaves sources c (Contains source) = c
 
 -- the answer of a step, where it gives one
 abbrev pub step_answers : List Flat → Flat → Step → List Answer
@@ -44,6 +50,8 @@ step_answers sources c (Zip source choice) = []
 step_answers sources c (Fill value) = []
 step_answers sources c (Cast target) = []
 step_answers sources c (Compare op value) = []
+step_answers sources c (Search value side) = answer.Place (place side (standing row_cmp c.rows value.row)) ∷ []
+step_answers sources c (Contains source) = answer.Bits (contained c.rows (slice_get sources source)) ∷ []
 
 -- each number that is named is that of a row
 abbrev pub AreInside : ℕ → List ℕ → Type 0
@@ -66,6 +74,8 @@ IsStepError sources number c (Zip source choice) e = IsZipError source (slice_ge
 IsStepError sources number c (Fill value) e = IsNestedError number c.dtype e ⊎ IsFillError c.dtype value e
 IsStepError sources number c (Cast target) e = IsNestedError number c.dtype e ⊎ IsCastError c.dtype c.rows target e
 IsStepError sources number c (Compare op value) e = IsNestedError number c.dtype e ⊎ IsTypeError c.dtype value.dtype e
+IsStepError sources number c (Search value side) e = IsSearchError number c.dtype c.rows value.dtype e
+IsStepError sources number c (Contains source) e = IsContainsError source (slice_get sources source) c.dtype e
 
 -- no error is true of a step
 abbrev pub IsFree : List Flat → ℕ → Flat → Step → Type 0
@@ -83,6 +93,8 @@ HasBound t (Zip source choice) = ⊥
 HasBound t (Fill value) = ⊥
 HasBound t (Cast target) = ⊥
 HasBound t (Compare op value) = ⊥
+HasBound t (Search value side) = ⊥
+HasBound t (Contains source) = ⊥
 
 -- that bound, by the cost of a read and of n rows of a selection: four reads a slice, one for each row that is named, and
 -- a selection of as many rows as a step gives; no bound is claimed of the other steps
@@ -97,3 +109,5 @@ step_cost point select (Zip source choice) = 0
 step_cost point select (Fill value) = 0
 step_cost point select (Cast target) = 0
 step_cost point select (Compare op value) = 0
+step_cost point select (Search value side) = 0
+step_cost point select (Contains source) = 0

@@ -4,12 +4,26 @@ ghost use Rattle.vx_job.specs.PageView.{page_view};
 
 use std::marker::Model;
 use vx_base::{DType, Row, RowBuffer, Seq};
+use vx_search::SearchResult;
 
 /// What a step answers.
-#[derive(Drop)]
 pub enum Answer {
     /// Rows, in the order that was asked for.
     Rows(Seq<Row>),
+    /// Where a value was found, or belongs.
+    Place(SearchResult),
+    /// A bit for each row, and null for a null.
+    Bits(Seq<Option<bool>>),
+}
+
+impl Drop for Answer {
+    fn drop(self) {
+        match self {
+            Answer::Rows(_rows) => {}
+            Answer::Place(_place) => {}
+            Answer::Bits(_bits) => {}
+        }
+    }
 }
 
 /// The answers of a plan in order, and the type and the rows of its last column.

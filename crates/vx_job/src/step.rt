@@ -1,6 +1,7 @@
 //! What is done to a column.
 use vx_base::{DType, Seq};
 use vx_scalars::{CompareOperator, Scalar};
+use vx_search::SearchSortedSide;
 
 /// One step of a plan.
 pub enum Step {
@@ -9,8 +10,8 @@ pub enum Step {
         start: usize,
         end: usize,
     },
-    /// Answers the rows of these numbers, and keeps the column. `kept` asks for a reader that keeps what it
-    /// learned from one row to the next; for now nothing is kept either way.
+    /// Answers the rows of these numbers, and keeps the column. Where `kept` is true they are read through one
+    /// `RepeatedArrayProbe`, which keeps what it learned from one row to the next, and else each by itself.
     Points {
         rows: Seq<usize>,
         kept: bool,
@@ -50,6 +51,15 @@ pub enum Step {
         operator: CompareOperator,
         value: Scalar,
     },
+    /// Answers the place of a value among the rows, which are sorted, and keeps the column.
+    Search {
+        value: Scalar,
+        side: SearchSortedSide,
+    },
+    /// Answers for each row whether it is among those of a part, and null for a null, and keeps the column.
+    Contains {
+        source: usize,
+    },
 }
 
 impl Drop for Step {
@@ -80,6 +90,11 @@ impl Drop for Step {
                 operator: _operator,
                 value: _value,
             } => {}
+            Step::Search {
+                value: _value,
+                side: _side,
+            } => {}
+            Step::Contains { source: _source } => {}
         }
     }
 }

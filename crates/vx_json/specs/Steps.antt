@@ -1,9 +1,11 @@
 -- The steps that JSON values are.
-use Rattle.std.specs.Prelude.{codes, if◌then◌else◌, Option, Some, None}
+use Rattle.std.specs.Prelude.{List, ℕ, codes, bytes_eq, if◌then◌else◌, Option, Some, None}
 use Rattle.serde_json.specs.Data.{Data}
-use Rattle.serde_json.specs.Find.{get, as_bool}
+use Rattle.serde_json.specs.Find.{get, as_bool, as_str}
+use Rattle.vx_search.specs.declared.result.SearchSortedSide.{SearchSortedSide}
+use Rattle.vx_search.specs.declared.result.SearchSortedSide.TheVariants.{Left, Right}
 use Rattle.vx_job.specs.declared.step.Step.{Step}
-use Rattle.vx_job.specs.declared.step.Step.TheVariants.{Slice, Points, Filter, Take, Runs, Mask, Zip, Fill, Cast, Compare}
+use Rattle.vx_job.specs.declared.step.Step.TheVariants.{Slice, Points, Filter, Take, Runs, Mask, Zip, Fill, Cast, Compare, Search, Contains}
 use Rattle.vx_json.specs.declared.steps.StepTag.{StepTag}
 use Rattle.vx_json.specs.declared.steps.StepTag.TheVariants as tag
 use Rattle.vx_json_rows.specs.Forms.{◌>>=◌, has, object_of, list_of, null_or, pair_of, whole_of}
@@ -98,6 +100,34 @@ compare_form d = do
   value ← scalar_form item
   Some (Compare operator value)
 
+-- the side of this name
+abbrev pub side_named : List ℕ → Option SearchSortedSide
+side_named s =
+    if bytes_eq s (codes "left") then Some Left else (
+    if bytes_eq s (codes "right") then Some Right else None)
+
+-- the side that a text names
+abbrev pub side_of : Data → Option SearchSortedSide
+side_of d = as_str d >>= side_named
+
+-- `{"search":side,"value":V}`
+unfoldable pub search_form : Data → Option Step
+search_form d = do
+  len ← object_of 2 d
+  name ← get (codes "search") d
+  item ← get (codes "value") d
+  side ← side_of name
+  value ← scalar_form item
+  Some (Search value side)
+
+-- `{"contains":source}`
+unfoldable pub contains_form : Data → Option Step
+contains_form d = do
+  len ← object_of 1 d
+  number ← get (codes "contains") d
+  source ← whole_of number
+  Some (Contains source)
+
 -- which form the value's keys name
 abbrev pub tag_of : Data → Option StepTag
 tag_of d =
@@ -110,7 +140,9 @@ tag_of d =
     if has (codes "zip") d then Some tag.Zip else (
     if has (codes "fill") d then Some tag.Fill else (
     if has (codes "cast") d then Some tag.Cast else (
-    if has (codes "compare") d then Some tag.Compare else None)))))))))
+    if has (codes "compare") d then Some tag.Compare else (
+    if has (codes "search") d then Some tag.Search else (
+    if has (codes "contains") d then Some tag.Contains else None)))))))))))
 
 -- a value of that form
 abbrev pub step_by : Option StepTag → Data → Option Step
@@ -125,6 +157,8 @@ step_by (Some tag.Zip) d = zip_form d
 step_by (Some tag.Fill) d = fill_form d
 step_by (Some tag.Cast) d = cast_form d
 step_by (Some tag.Compare) d = compare_form d
+step_by (Some tag.Search) d = search_form d
+step_by (Some tag.Contains) d = contains_form d
 
 abbrev pub step_of : Data → Option Step
 step_of d = step_by (tag_of d) d

@@ -8,11 +8,12 @@ use serde_json::Value;
 use std::alloc::Global;
 use vx_job::Step;
 use vx_json_rows::forms::{
-    array_of, bool_of, field, has_field, has_keys, pair_of_wholes, seq_of, whole_of,
+    array_of, bool_of, field, has_field, has_keys, pair_of_wholes, seq_of, text_of, whole_of,
 };
 use vx_json_rows::scalars::{operator_of, scalar_of};
 use vx_json_rows::types::type_of;
 use vx_json_rows::{Trail, Unread};
+use vx_search::SearchSortedSide;
 
 /// The forms of steps, each known by a key that no other has.
 #[derive(Clone, Copy, Debug, PartialEq, Eq, Drop)]
@@ -27,6 +28,8 @@ pub enum StepTag {
     Fill,
     Cast,
     Compare,
+    Search,
+    Contains,
 }
 
 fn tag_of(value: &Value) -> Option<StepTag>
@@ -52,20 +55,25 @@ fn tag_of(value: &Value) -> Option<StepTag>
         Some(StepTag::Cast)
     } else if has_field(value, "compare") {
         Some(StepTag::Compare)
+    } else if has_field(value, "search") {
+        Some(StepTag::Search)
+    } else if has_field(value, "contains") {
+        Some(StepTag::Contains)
     } else {
         None
     }
 }
 
 /// The keys that name the forms of steps.
-const TAGS: [&str; 10] = [
+const TAGS: [&str; 12] = [
     "slice", "points", "filter", "take", "runs", "mask", "zip", "fill", "cast", "compare",
+    "search", "contains",
 ];
 
 /// The keys that steps may have.
-const KEYS: [&str; 14] = [
+const KEYS: [&str; 16] = [
     "slice", "points", "kept", "filter", "take", "runs", "len", "mask", "zip", "choice", "fill",
-    "cast", "compare", "value",
+    "cast", "compare", "value", "search", "contains",
 ];
 
 #[tactic(auto, unfolding(crate::specs::Steps::slice_form))]
@@ -176,6 +184,49 @@ fn compare_of(alloc: Global, value: &Value, trail: &Trail<'_>) -> Result<Step, U
     Ok(Step::Compare { operator, value })
 }
 
+fn side_named(text: &str) -> Option<SearchSortedSide>
+    ensures { result ≡ spec.side_named text.now }
+{
+    match text {
+        "left" => Some(SearchSortedSide::Left),
+        "right" => Some(SearchSortedSide::Right),
+        _ => None,
+    }
+}
+
+/// The side that a text names.
+fn side_of(value: &Value, trail: &Trail<'_>) -> Result<SearchSortedSide, Unread>
+    ensures { Gives (λ s. s) result (spec.side_of (view value.now)) }
+{
+    let text = text_of(value, trail)?;
+    match side_named(text) {
+        Some(side) => Ok(side),
+        None => Err(Unread::NoForm(trail.no_text(text, "side: expected \"left\" or \"right\""))),
+    }
+}
+
+#[tactic(auto, unfolding(crate::specs::Steps::search_form))]
+fn search_of(alloc: Global, value: &Value, trail: &Trail<'_>) -> Result<Step, Unread>
+    ensures { Gives (λ s. s) result (spec.search_form (view value.now)) }
+{
+    has_keys(value, &["search", "value"], trail)?;
+    let name = field(value, "search", trail)?;
+    let item = field(value, "value", trail)?;
+    let side = side_of(name, &Trail::Member(trail, "search"))?;
+    let value = scalar_of(alloc, item, &Trail::Member(trail, "value"))?;
+    Ok(Step::Search { value, side })
+}
+
+#[tactic(auto, unfolding(crate::specs::Steps::contains_form))]
+fn contains_of(value: &Value, trail: &Trail<'_>) -> Result<Step, Unread>
+    ensures { Gives (λ s. s) result (spec.contains_form (view value.now)) }
+{
+    has_keys(value, &["contains"], trail)?;
+    let number = field(value, "contains", trail)?;
+    let source = whole_of(number, &Trail::Member(trail, "contains"))?;
+    Ok(Step::Contains { source })
+}
+
 /// The step that a value is.
 pub fn step_of(alloc: Global, value: &Value, trail: &Trail<'_>) -> Result<Step, Unread>
     ensures { Gives (λ s. s) result (spec.step_of (view value.now)) }
@@ -192,6 +243,8 @@ pub fn step_of(alloc: Global, value: &Value, trail: &Trail<'_>) -> Result<Step, 
         Some(StepTag::Fill) => fill_of(alloc, value, trail),
         Some(StepTag::Cast) => cast_of(value, trail),
         Some(StepTag::Compare) => compare_of(alloc, value, trail),
+        Some(StepTag::Search) => search_of(alloc, value, trail),
+        Some(StepTag::Contains) => contains_of(value, trail),
     }
 }
 

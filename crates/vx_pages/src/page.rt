@@ -9,6 +9,35 @@ use serde_json::{Value, json};
 use std::alloc::{AllocError, Global};
 use vx_job::{Answer, Page};
 use vx_rows::{ColumnError, Res};
+use vx_search::SearchResult;
+
+fn place_json(alloc: Global, place: SearchResult) -> Result<Value, AllocError>
+    ensures { IfOk result (λ v. view v ≡ spec.place_json place) }
+{
+    match place {
+        SearchResult::Found(place) => json!(in alloc; {"found": place}),
+        SearchResult::NotFound(place) => json!(in alloc; {"not_found": place}),
+    }
+}
+
+fn bit_json(bit: Option<bool>) -> Value
+    ensures { view result ≡ spec.bit_json bit }
+{
+    match bit {
+        None => Value::Null,
+        Some(bit) => Value::Bool(bit),
+    }
+}
+
+fn bits_json(alloc: Global, bits: &[Option<bool>]) -> Result<Vec<Value>, AllocError>
+    ensures { IfOk result (λ v. map view v.items ≡ map spec.bit_json bits.now) }
+{
+    let mut values = Vec::with_capacity(alloc, bits.len())?;
+    for bit in bits {
+        values.push(bit_json(*bit))?;
+    }
+    Ok(values)
+}
 
 fn answer_json(alloc: Global, answer: &Answer) -> Result<Value, AllocError>
     ensures { IfOk result (λ v. view v ≡ spec.answer_json answer.now) }
@@ -17,6 +46,11 @@ fn answer_json(alloc: Global, answer: &Answer) -> Result<Value, AllocError>
         Answer::Rows(rows) => {
             let rows = Value::Array(rows_json(alloc, rows.as_slice())?);
             json!(in alloc; {"rows": rows})
+        }
+        Answer::Place(place) => place_json(alloc, *place),
+        Answer::Bits(bits) => {
+            let bits = Value::Array(bits_json(alloc, bits.as_slice())?);
+            json!(in alloc; {"bits": bits})
         }
     }
 }

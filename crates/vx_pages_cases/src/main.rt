@@ -2,7 +2,8 @@
 //!
 //! A line of a case is a page or a refusal, and its answer is the line that is written, without its line feed.
 //!
-//! - `{"type":TYPE,"rows":[ROW,..],"answers":[[ROW,..],..]}` is a page. That the rows fit the type isn't asked.
+//! - `{"type":TYPE,"rows":[ROW,..],"answers":[ANSWER,..]}` is a page. That the rows fit the type isn't asked. An answer is
+//!   `[ROW,..]`, `{"found":n}`, `{"not_found":n}`, or `{"bits":[b,..]}` with `null` for a bit that is none.
 //! - `{"error":"NAME"}` is a refusal, with its fields beside the name, as `{"error":"BadRange","start":2,"end":1}`; `at` is a
 //!   list of numbers, `rule` and `fault` are names, and the number of a fault stands beside it.
 //!
@@ -26,6 +27,7 @@ use vx_base::{Res, RowBuffer, Seq};
 use vx_cases::{Answer, Answers, run_cases};
 use vx_job::{Answer as Answered, Page};
 use vx_pages::{page_line, refusal_line};
+use vx_search::SearchResult;
 
 struct PageCases;
 
@@ -48,12 +50,40 @@ impl Answers for PageCases {
 
 fn answers_of(alloc: Global, value: &Value) -> Res<Seq<Answered>> {
     let mut answers = Seq::new(alloc);
-    if let Some(lists) = value.as_array() {
-        for rows in lists {
-            answers.push(Answered::Rows(rows_of(alloc, rows)?))?;
+    if let Some(items) = value.as_array() {
+        for item in items {
+            answers.push(answer_of(alloc, item)?)?;
         }
     }
     Ok(answers)
+}
+
+fn answer_of(alloc: Global, value: &Value) -> Res<Answered> {
+    if let Some(place) = value.get("found") {
+        return Ok(Answered::Place(SearchResult::Found(whole_of(place))));
+    }
+    if let Some(place) = value.get("not_found") {
+        return Ok(Answered::Place(SearchResult::NotFound(whole_of(place))));
+    }
+    match value.get("bits") {
+        Some(bits) => Ok(Answered::Bits(bits_of(alloc, bits)?)),
+        None => Ok(Answered::Rows(rows_of(alloc, value)?)),
+    }
+}
+
+/// The number, 0 where it is none.
+fn whole_of(value: &Value) -> usize {
+    value.as_u64().unwrap_or(0) as usize
+}
+
+fn bits_of(alloc: Global, value: &Value) -> Res<Seq<Option<bool>>> {
+    let mut bits = Seq::new(alloc);
+    if let Some(items) = value.as_array() {
+        for item in items {
+            bits.push(item.as_bool())?;
+        }
+    }
+    Ok(bits)
 }
 
 fn page_of(alloc: Global, case: &Value) -> Res<Page> {
