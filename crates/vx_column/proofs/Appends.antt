@@ -4,12 +4,13 @@ use Rattle.std.proofs.lemmas.List.{take_more}
 use Rattle.std.proofs.Math.Nat.{mul-le-mul, mul-le-mul_left, le_refl}
 use Rattle.vx_rows.specs.declared.value.Value.{Value}
 use Rattle.vx_chunks.specs.Bounds.{total}
-use Rattle.vx_column.specs.Columns.{rows_of, len_of, point_cost, lane_cost, select_bound}
-use Rattle.vx_job.specs.Rows.{greatest}
+use Rattle.vx_column.specs.Columns.{rows_of, len_of, point_cost, lane_cost, lane_entries, select_bound}
+use Rattle.vx_job.specs.Rows.{greatest, lane_reads}
 use Rattle.vx_column.specs.declared.chunked.Chunked.{Chunked}
+use Rattle.vx_column.specs.declared.patched.Patched.{Patched}
 use Rattle.vx_column.specs.declared.column.Column.{Column}
 use Rattle.vx_column.specs.declared.column.Column.TheVariants as column
-use Rattle.vx_column.proofs.Layers.{lane_chunked, rows_chunked}
+use Rattle.vx_column.proofs.Layers.{lane_chunked, rows_chunked, point_patched, lane_patched}
 use Rattle.vx_column.proofs.Cuts.{rows_in, rows_more, rows_part, greatest_at, point_cost_is}
 
 total_append : (f : Column → ℕ) (xs ys : List Column) → total (map f (xs ++ ys)) ≡ total (map f xs) + total (map f ys)
@@ -59,3 +60,13 @@ appended_next old front out rows next more before ok is = ok ∙ ap (λ r. r ++ 
 -- all of them
 pub appended_all : (old front out all : List (Option Value)) → out ≡ old ++ front → front ≡ all → out ≡ old ++ all
 appended_all old front out all before is = before ∙ ap (λ r. old ++ r) is
+
+-- the rows under lanes, and then one pass over these and the lanes
+pub patched_bound : (p : Patched Column) (x : Column) (n m : ℕ) → x ≡ p.inner → m ≡ n → select_bound x m + lane_entries p.lanes + n ≤ select_bound (column.Patched p) n
+patched_bound p x n m same len =
+    let r = lane_reads p.lanes.n_lanes in
+    let q = point_cost p.inner in
+    let whole : 8 * n * point_cost (column.Patched p) ≡ 8 * n * (r + q) = ap (λ (k : ℕ). 8 * n * k) (point_patched p) in
+    let inner : select_bound x m ≡ 8 * n * q + lane_cost p.inner = ap (λ (y : Column). select_bound y m) same ∙ ap (λ (k : ℕ). 8 * k * q + lane_cost p.inner) len in
+    let more : 8 * n * 1 ≤ 8 * n * r = mul-le-mul_left (8 * n) (omega arith) in
+    omega (arith, whole, inner, more, lane_patched p)

@@ -255,7 +255,7 @@ chunked_made c h slots s t =
     subst IsSound (rolls-Chunked c) (every_made-Column IsSoundLayer (Column-F.Chunked c)
     (Column-F.Chunked record { dtype = c.dtype; boundaries = c.boundaries; chunks = with_proofs c.chunks all; slots = with_proofs c.slots each })
     (ap (λ xs. Column-F.Chunked record { dtype = c.dtype; boundaries = c.boundaries; chunks = xs; slots = map (λ e. e.0) (with_proofs c.slots each) }) (with_proofs_of c.chunks all)
-        ∙ ap (λ ys. Column-F.Chunked record { dtype = c.dtype; boundaries = c.boundaries; chunks = c.chunks; slots = ys }) (with_proofs_of c.slots each)) (h, slots))
+    ∙ ap (λ ys. Column-F.Chunked record { dtype = c.dtype; boundaries = c.boundaries; chunks = c.chunks; slots = ys }) (with_proofs_of c.slots each)) (h, slots))
 
 pub patched_made : (p : Patched Column) → AreLanes p → p.slots ≡ map column.Flat (lane_slots p.lanes) → IsSound p.inner → All IsSound p.slots → IsSound (column.Patched p)
 patched_made p h slots s t =
@@ -278,7 +278,7 @@ interleaved_made i h slots s t =
     subst IsSound (rolls-Interleave i) (every_made-Column IsSoundLayer (Column-F.Interleave i)
     (Column-F.Interleave record { dtype = i.dtype; selectors = i.selectors; values = with_proofs i.values all; slots = with_proofs i.slots each })
     (ap (λ xs. Column-F.Interleave record { dtype = i.dtype; selectors = i.selectors; values = xs; slots = map (λ e. e.0) (with_proofs i.slots each) }) (with_proofs_of i.values all)
-        ∙ ap (λ ys. Column-F.Interleave record { dtype = i.dtype; selectors = i.selectors; values = i.values; slots = ys }) (with_proofs_of i.slots each)) (h, slots))
+    ∙ ap (λ ys. Column-F.Interleave record { dtype = i.dtype; selectors = i.selectors; values = i.values; slots = ys }) (with_proofs_of i.slots each)) (h, slots))
 
 pub total_joined : (cs : List Column) → total (map len_of cs) ≡ length (joined (map rows_of cs))
 total_joined [] = refl

@@ -1,11 +1,14 @@
 use Rattle.vx_column.specs.declared.column.Column.{Column}
 use Rattle.vx_column.specs.declared.column.Column.TheVariants as column
-use Rattle.std.proofs.Common.{◌≡◌, ◌+◌, sym, arith, ap, ◌∙◌, take, subst, ◌≤◌}
+use Rattle.std.proofs.Common.{◌≡◌, ◌+◌, ◌++◌, sym, arith, ap, ◌∙◌, take, subst, ◌≤◌, length}
+use Rattle.vx_lanes.specs.Layouts.{exceptions}
+use Rattle.vx_lanes.specs.declared.layout.Layout.{Layout}
+use Rattle.vx_job.specs.Rows.{Rows}
 use Rattle.std.proofs.lemmas.List.{take_all}
 use Rattle.vx_column.specs.Columns.{rows_of, IsPlain, select_bound, len_of}
 use Rattle.vx_column.proofs.Cuts.{rows_in, rows_more, held_at}
 use Rattle.vx_column.proofs.Layers.{rows_chunked}
-use Rattle.vx_column.proofs.Appends.{append_next, append_bound, appended_next, appended_all}
+use Rattle.vx_column.proofs.Appends.{append_next, append_bound, appended_next, appended_all, patched_bound}
 use Rattle.vx_column.proofs.+append_rows.Goals as goal
 
 pub chunked::Chunked+Column::append_rows-returns-in_err-append_rows-clause-rise : goal.chunked::Chunked+Column::append_rows-returns-in_err-append_rows-clause-rise
@@ -48,3 +51,20 @@ column::Column::append_rows-returns-in-Chunked-clause-rise g t c =
 pub column::Column::append_rows-returns-in-Patched-clause-rise : goal.column::Column::append_rows-returns-in-Patched-clause-rise
 column::Column::append_rows-returns-in-Patched-clause-rise g t c =
     subst (λ (x : Column). IsPlain x → c.append_rows-in-Patched.new.steps ≤ c.args.steps.now + select_bound x (len_of x)) (sym c.in-Patched.is) c.append_rows-in-Patched.ensures.rise
+
+pub patched::Patched+Column::append_rows-returns-in_err-append_rows-clause-rise : goal.patched::Patched+Column::append_rows-returns-in_err-append_rows-clause-rise
+patched::Patched+Column::append_rows-returns-in_err-append_rows-clause-rise g t c plain =
+    let self = c.args.self.now in
+    let whole = column.Patched self in
+    omega (arith, c.append_rows.ensures.rise (c.inner.ensures.plain plain), patched_bound self c.inner.result.now (len_of whole) (len_of c.inner.result.now) c.inner.ensures.value c.inner.ensures.len)
+
+pub patched::Patched+Column::append_rows-returns-clause-rise : goal.patched::Patched+Column::append_rows-returns-clause-rise
+patched::Patched+Column::append_rows-returns-clause-rise g t c plain =
+    let self = c.args.self.now in
+    let whole = column.Patched self in
+    let inner = c.append_rows.ensures.rise (c.inner.ensures.plain plain) in
+    let bound = patched_bound self c.inner.result.now (len_of whole) (len_of c.inner.result.now) c.inner.ensures.value c.inner.ensures.len in
+    let over = c.append_overlaid.ensures.rise in
+    let lanes = ap (λ (l : Layout). length l.lane_offsets.rows + exceptions l) c.lanes.ensures.value in
+    let rows = ap (λ (rows : Rows). length rows) (c.in_ok-append_rows.ensures.ok ∙ ap (λ (front : Rows). front ++ rows_of c.inner.result.now) c.new-rows.ensures) in
+    omega (arith, inner, bound, over, lanes, rows, c.inner.ensures.len)
