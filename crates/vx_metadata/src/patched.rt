@@ -14,7 +14,7 @@ use vx_base::dtype::same_type;
 use vx_base::{ColumnError, DType, FlatColumn, Ledger, Path, Res, Rule, Seq, Steps};
 use vx_column::{Column, Patched, PatchedArray};
 use vx_lanes::Lanes;
-use vx_wire::PatchedMetadata;
+use vx_wire::{PatchedMetadata, laws};
 
 /// The serialized form of an array with exceptions by lane: its type, its length, its inner column and the columns of its
 /// layout, beside which stand the bytes of a `PatchedMetadata`.
@@ -77,6 +77,9 @@ impl SerializePatched for Patched<Column> {
         ensures rise { steps.new ≤ steps.old + length lane_offsets.rows + length indices.rows }
         ensures monotone { steps.old ≤ steps.new }
     {
+        // On these laws of the bytes rests that what was serialized is read back.
+        laws::round_trip();
+        laws::one_reading();
         let message = message_for(alloc, &dtype, len, metadata, &inner, &indices, &values)?;
         PatchedArray::try_new(
             alloc,
