@@ -1,5 +1,5 @@
 -- Boundaries that break no rule, and those of an array, which break none.
-use Rattle.std.proofs.Common.{◌≡◌, ℕ, zero, suc, ◌+◌, ◌-◌, ◌<◌, ◌≤◌, List, [], ◌∷◌, map, length, take, slice_index, get_or, refl, sym, ◌∙◌, ap, arith, add-one, Bool, true, false, cond, ◌||◌, not, None, Some, eqb, pos}
+use Rattle.std.proofs.Common.{◌≡◌, ℕ, zero, suc, ◌+◌, ◌-◌, ◌<◌, ◌≤◌, List, [], ◌∷◌, map, length, take, slice_index, get_or, refl, ◌∙◌, ap, arith, add-one, Bool, true, false, cond, ◌||◌, not, None, Some, eqb, pos}
 use Rattle.std.proofs.lemmas.Bool.{eq-eqb, false≢true}
 use Rattle.std.proofs.lemmas.Bool.Decides.{nat_tests}
 use Rattle.std.proofs.lemmas.List.{length-map}
@@ -81,10 +81,10 @@ bounded_total len offsets lens e =
     let last : length offsets.rows - 1 ≡ length lens = omega arith in
     let ends : bound_at offsets (length offsets.rows - 1) ≡ bound_at offsets (length lens) = ap (bound_at offsets) last in
     let sum : bound_at offsets 0 + total lens ≡ bound_at offsets (length lens) = spans_sum (bound_at offsets) lens (λ k w.
-          let next : bound_at offsets (k + 1) ≡ bound_at offsets (suc k) = ap (bound_at offsets) (add-one k) in
-          let span : slice_index lens k ≡ bound_at offsets (k + 1) - bound_at offsets k = span_tells offsets lens k p6.0 w in
-          let rise : bound_at offsets k ≤ bound_at offsets (k + 1) = non_decreasing-says (numbers_of offsets.rows) up k (k + 1) 0 (omega arith) (omega (arith, length_numbers offsets.rows)) in
-          omega arith) in
+    let next : bound_at offsets (k + 1) ≡ bound_at offsets (suc k) = ap (bound_at offsets) (add-one k) in
+    let span : slice_index lens k ≡ bound_at offsets (k + 1) - bound_at offsets k = span_tells offsets lens k p6.0 w in
+    let rise : bound_at offsets k ≤ bound_at offsets (k + 1) = non_decreasing-says (numbers_of offsets.rows) up k (k + 1) 0 (omega arith) (omega (arith, length_numbers offsets.rows)) in
+    omega arith) in
     omega arith
 
 -- ---- an array's own boundaries

@@ -1,5 +1,5 @@
 -- Chunked arrays that were serialized have no fault, and are read back.
-use Rattle.std.proofs.Common.{◌≡◌, ℕ, ◌^◌, ◌<◌, List, [], ◌∷◌, map, length, refl, sym, ◌∙◌, ap, subst, arith, inl, inr, Option, Some, None, Result, Ok, Err}
+use Rattle.std.proofs.Common.{◌≡◌, ℕ, ◌^◌, ◌<◌, List, [], ◌∷◌, map, sym, ◌∙◌, ap, subst, arith, inl, inr, Option, Some, None, Result, Ok, Err}
 use Rattle.std.specs.Prelude.{IfOk, IfErr}
 use Rattle.std.specs.List.{All}
 use Rattle.vx_rows.specs.declared.dtype.DType.{DType}
@@ -44,9 +44,10 @@ module _ (array : Chunked Column) (t : DType) (len : ℕ) (metadata : List ℕ) 
   chunked_back_err e (inr memory) = memory.0
 
   pub chunked_back_ok : (other : Chunked Column) → (chunks_of other ≡ chunks) × (declared_type other ≡ t) → IsChunkedBack array (Ok other)
-  chunked_back_ok other made =
-      (type_chunked other ∙ made.1 ∙ is.dtype_is ∙ sym (type_chunked array),
-      rows_chunked other ∙ ap (λ (cs : List Column). joined (map rows_of cs)) (made.0 ∙ is.chunks_are) ∙ sym (rows_chunked array))
+  chunked_back_ok other made = (
+    type_chunked other ∙ made.1 ∙ is.dtype_is ∙ sym (type_chunked array),
+    rows_chunked other ∙ ap (λ (cs : List Column). joined (map rows_of cs)) (made.0 ∙ is.chunks_are) ∙ sym (rows_chunked array),
+  )
 
   pub chunked_back : (r : Result (Chunked Column) ColumnError) → IfOk r (λ other. (chunks_of other ≡ chunks) × (declared_type other ≡ t)) →
       IfErr r (ChunkedCause t len metadata offsets chunks) → IsChunkedBack array r

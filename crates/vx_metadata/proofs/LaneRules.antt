@@ -1,16 +1,14 @@
 -- A sound layout breaks no rule.
-use Rattle.std.proofs.Common.{◌≡◌, ℕ, zero, suc, ◌+◌, ◌-◌, ◌*◌, ◌%◌, ◌^◌, ◌<◌, ◌≤◌, List, [], ◌∷◌, length, slice_index, refl, sym, ◌∙◌, ap, subst, arith, add-one, inl, inr, Bool, true, false, not, ◌&&◌, None, eqb, ltb, leb}
+use Rattle.std.proofs.Common.{◌≡◌, ℕ, suc, ◌+◌, ◌-◌, ◌%◌, ◌^◌, ◌<◌, ◌≤◌, List, [], ◌∷◌, length, slice_index, refl, ap, arith, add-one, inl, inr, Bool, true, false, not, ◌&&◌, None, eqb}
 use Rattle.std.proofs.lemmas.Bool.{cases_lt}
 use Rattle.std.proofs.lemmas.Bool.Decides.{nat_tests}
 use Rattle.std.specs.Prelude.{nat_le, nat_lt}
-use Rattle.vx_rows.specs.Types.{AlikeTypes}
-use Rattle.vx_rows.specs.declared.dtype.DType.{DType}
-use Rattle.vx_base.specs.Numbers.{numbers_of, is_integer}
+use Rattle.vx_base.specs.Numbers.{numbers_of}
 use Rattle.vx_base.specs.Checks.{non_decreasing}
 use Rattle.vx_base.proofs.CheckLemmas.{length_numbers}
 use Rattle.vx_lanes.specs.declared.layout.Layout.{Layout}
 use Rattle.vx_lanes.specs.Layouts.{IsLayout, entries, exceptions, lane_start, index_of}
-use Rattle.vx_lanes.specs.Rules.{any_below, any_between, any_entry, over_range, off_lane, off_order, too_long, lane_count, lane_offset, lane_offsets_type, lane_offsets_length, lane_offsets_fall, lane_offsets_end, lane_index_type, lane_lengths, lane_too_many, lane_index_range, lane_index_lane, lane_index_order, lane_value_null, layout_fault}
+use Rattle.vx_lanes.specs.Rules.{any_between, any_entry, over_range, off_lane, off_order, too_long, lane_count, lane_offset, lane_offsets_type, lane_offsets_length, lane_offsets_fall, lane_offsets_end, lane_index_type, lane_lengths, lane_too_many, lane_index_range, lane_index_lane, lane_index_order, lane_value_null, layout_fault}
 use Rattle.vx_lanes.proofs.Firsts.{any_below_some}
 use Rattle.std.proofs.lemmas.Bool.{eq-eqb}
 use Rattle.vx_metadata.proofs.Bounds.{skip, skip_none, none_below, same_numbers}

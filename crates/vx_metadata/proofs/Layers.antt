@@ -1,5 +1,5 @@
 -- What columns of chunks and of lanes mean, by their children.
-use Rattle.std.proofs.Common.{◌≡◌, ℕ, ◌+◌, List, [], ◌∷◌, map, length, refl, sym, ◌∙◌, ap, subst, arith, length-append}
+use Rattle.std.proofs.Common.{◌≡◌, ◌+◌, List, [], ◌∷◌, map, length, refl, sym, ◌∙◌, ap, subst, length-append}
 use Rattle.vx_rows.specs.declared.dtype.DType.{DType}
 use Rattle.vx_lanes.specs.Layouts.{overlaid}
 use Rattle.vx_lanes.proofs.Columns.{overlaid_length}

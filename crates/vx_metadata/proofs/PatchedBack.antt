@@ -1,10 +1,9 @@
 -- Arrays with exceptions by lane that were serialized have no fault, and are read back.
-use Rattle.std.proofs.Common.{◌≡◌, ℕ, ◌^◌, ◌<◌, List, [], ◌∷◌, length, refl, sym, ◌∙◌, ap, subst, arith, inl, inr, Bool, true, false, not, ◌||◌, eqb, Option, Some, None, Result, Ok, Err}
+use Rattle.std.proofs.Common.{◌≡◌, ℕ, ◌<◌, List, length, refl, sym, ◌∙◌, ap, subst, arith, inl, inr, Bool, true, false, not, ◌||◌, eqb, Some, None, Result, Ok, Err}
 use Rattle.std.proofs.lemmas.Bool.Decides.{nat_tests}
 use Rattle.std.specs.Prelude.{IfOk, OnOk, IfErr}
 use Rattle.vx_rows.specs.Types.{AlikeTypes}
 use Rattle.vx_rows.specs.declared.dtype.DType.{DType}
-use Rattle.vx_rows.specs.declared.error.Rule.{Rule}
 use Rattle.vx_rows.specs.declared.error.ColumnError.{ColumnError}
 use Rattle.vx_base.specs.Column.{Flat}
 use Rattle.vx_base.specs.Numbers.{is_integer}
@@ -12,7 +11,7 @@ use Rattle.vx_wire.specs.Laws.{OneReading, NoFaultWhereRead, LanesReadBack}
 use Rattle.vx_wire.specs.Messages.{SaysLanes, lanes_of as said_lanes}
 use Rattle.vx_wire.specs.declared.patched.PatchedMetadata.{PatchedMetadata}
 use Rattle.vx_lanes.specs.declared.layout.Layout.{Layout}
-use Rattle.vx_lanes.specs.Layouts.{IsLayout, layout, overlaid}
+use Rattle.vx_lanes.specs.Layouts.{layout, overlaid}
 use Rattle.vx_lanes.specs.Rules.{IsFirstBroken, layout_fault}
 use Rattle.vx_lanes.proofs.Entries.{lanes_few}
 use Rattle.vx_lanes.proofs.Sound.{passed}
@@ -22,7 +21,7 @@ use Rattle.vx_column.specs.declared.patched.Patched.{Patched}
 use Rattle.vx_column.specs.declared.column.Column.{Column}
 use Rattle.vx_column.specs.declared.column.Column.TheVariants.{Patched as patched_column}
 use Rattle.vx_column.specs.Columns.{type_of, rows_of, len_of, IsSound, inner_of, lanes_of}
-use Rattle.vx_metadata.specs.Patched.{message_of, patched_bytes, inner_length, lane_lengths, child_fault, IsChildFault, IsMessageFor, IsMessageFault, said_layout, PatchedCause, IsPatchedForm, IsPatchedFormOf, IsPatchedBack}
+use Rattle.vx_metadata.specs.Patched.{message_of, patched_bytes, inner_length, lane_lengths, child_fault, IsChildFault, IsMessageFor, said_layout, PatchedCause, IsPatchedForm, IsPatchedFormOf, IsPatchedBack}
 use Rattle.vx_metadata.proofs.Bounds.{skip, skip_none, same_numbers}
 use Rattle.vx_metadata.proofs.LaneRules.{layout_clean}
 use Rattle.vx_metadata.proofs.Layers.{rows_patched, type_patched, lanes_here, len_patched}
@@ -112,7 +111,7 @@ module _ (laws : WireLaws) (array : Patched Column) (t : DType) (len : ℕ) (met
       let kinds = lanes_here array s in
       let integers : is_integer (type_of inner) ≡ true = ap (λ (c : Column). is_integer (type_of c)) is.inner_is ∙ kinds.integers in
       let alike : AlikeTypes values.dtype (type_of inner) =
-            subst (λ (v : Flat). AlikeTypes v.dtype (type_of inner)) (sym is.values_are) (subst (λ (c : Column). AlikeTypes (lanes_of array).patch_values.dtype (type_of c)) (sym is.inner_is) kinds.alike) in
+      subst (λ (v : Flat). AlikeTypes v.dtype (type_of inner)) (sym is.values_are) (subst (λ (c : Column). AlikeTypes (lanes_of array).patch_values.dtype (type_of c)) (sym is.inner_is) kinds.alike) in
       no_lanes_fault (type_of inner) (len_of inner) m.n_lanes m.offset lane_offsets indices values fault integers alike (ap (λ (l : Layout). layout_fault l true) (laid m other) ∙ layout_clean (lanes_of array) kinds.sound) told
 
   pub patched_back_err : (e : ColumnError) → PatchedCause t len metadata inner lane_offsets indices values e → IsPatchedBack array (Err e)

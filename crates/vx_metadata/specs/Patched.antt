@@ -71,7 +71,7 @@ abbrev pub PatchedCause : DType → ℕ → List ℕ → Column → Flat → Fla
 PatchedCause t len metadata inner lane_offsets indices values e =
     IsMessageFault t len metadata inner indices values e
     ⊎ ((m : PatchedMetadata) × IsMessageFor t len metadata inner indices values m
-      × MadeCause (IsLanesFault (type_of inner) (len_of inner) m.n_lanes m.offset lane_offsets indices values) e)
+    × MadeCause (IsLanesFault (type_of inner) (len_of inner) m.n_lanes m.offset lane_offsets indices values) e)
 
 -- the array is what the bytes and the children are the serialized form of
 pub record IsPatchedForm (t : DType) (len : ℕ) (metadata : List ℕ) (inner : Column) (lane_offsets indices values : Flat) (array : Patched Column) : Type 0 where

@@ -86,9 +86,19 @@ fn chunked_again<L: Ledger>(
 {
     let dtype = array.dtype().copy()?;
     let chunk_offsets = array.chunk_offsets_array().share()?;
+    // Each chunk is sound.
+    let _ = array.children();
     let chunks = array.chunks(alloc)?;
     let len = array.len();
-    let again = ChunkedArray::deserialize(alloc, dtype, len, metadata, chunk_offsets, chunks, steps)?;
+    let again = ChunkedArray::deserialize(
+        alloc,
+        dtype,
+        len,
+        metadata,
+        chunk_offsets,
+        chunks,
+        steps,
+    )?;
     Ok(AskedArray::new(Column::Chunked(again)))
 }
 

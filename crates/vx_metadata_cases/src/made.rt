@@ -55,13 +55,7 @@ impl LaneColumns {
     }
 
     /// The array of these columns over an inner one.
-    fn over(
-        self,
-        rt: &HostRuntime,
-        inner: Column,
-        n_lanes: usize,
-        offset: usize,
-    ) -> Res<AskedArray>
+    fn over(self, rt: &HostRuntime, inner: Column, n_lanes: usize, offset: usize) -> Res<AskedArray>
         requires { IsSound inner }
     {
         let LaneColumns {

@@ -1,4 +1,4 @@
-use Rattle.std.proofs.Common.{◌≡◌, ◌+◌, length, map, arith, ◌∙◌, sym}
+use Rattle.std.proofs.Common.{map, arith, ◌∙◌, sym}
 use Rattle.std.proofs.lemmas.List.{length-map}
 use Rattle.vx_column.specs.Columns.{len_of}
 use Rattle.vx_metadata.proofs.Bounds.{type_tells, count_tells}

@@ -1,4 +1,4 @@
-use Rattle.std.proofs.Common.{◌≡◌, ℕ, ◌-◌, length, ap, ◌∙◌, arith}
+use Rattle.std.proofs.Common.{◌≡◌, ◌-◌, length, ap, ◌∙◌, arith}
 use Rattle.vx_metadata.specs.Boundaries.{bound_at}
 use Rattle.vx_metadata.proofs.Spans.{none_off, one_more_off, all_off}
 use Rattle.vx_metadata.proofs.boundaries.walk.Goals as goal
@@ -11,9 +11,9 @@ loop-k-preserved g c =
     let h = c.loop-k.invariant in
     record {
       end = c.bound_at-next.ensures.bound;
-      off = c.is_off-off_span.ensures ∙ one_more_off c.args.chunk_offsets.now c.args.chunks.now c.loop-k.k c.index-chunks-k.result c.loop-k.off_span c.len.result c.loop-k.end c.bound_at-next.result
-          (omega arith) c.index-chunks-k.is h.off c.len.ensures h.end c.bound_at-next.ensures.bound;
-      cost = omega (arith, c.bound_at-next.ensures.cost, h.cost)
+      off = one_more_off c.args.chunk_offsets.now c.args.chunks.now c.loop-k.k c.index-chunks-k.result c.loop-k.off_span c.is_off-off_span.result c.len.result c.loop-k.end c.bound_at-next.result
+          c.is_off-off_span.ensures (omega arith) c.index-chunks-k.is h.off c.len.ensures h.end c.bound_at-next.ensures.bound;
+      cost = omega (arith, c.bound_at-next.ensures.cost, h.cost);
     }
 
 pub returns-clause-end : goal.returns-clause-end

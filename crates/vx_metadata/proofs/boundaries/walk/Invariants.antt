@@ -8,5 +8,5 @@ abbrev pub invariant-loop-k : goal.invariant-loop-k
 invariant-loop-k g l = record {
   end : l.end ≡ bound_at l.chunk_offsets l.k;
   off : l.off_span ≡ any_below (off_span l.chunk_offsets (map len_of l.chunks)) l.k;
-  cost : l.steps ≡ l.fn.steps + l.k
+  cost : l.steps ≡ l.fn.steps + l.k;
 }

@@ -1,0 +1,10 @@
+pub mod Ends
+pub mod Marks
+pub mod Searches
+pub mod Density
+pub mod Keys
+pub mod ByteSets
+pub mod Membership
+pub mod Ranges
+pub mod Fitting
+pub mod RowSets

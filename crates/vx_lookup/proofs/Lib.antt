@@ -1,0 +1,4 @@
+pub mod IntegerTypes
+pub mod Members
+pub mod SingleReads
+pub mod Sortedness
