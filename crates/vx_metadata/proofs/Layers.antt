@@ -21,7 +21,9 @@ pub type_chunked : (c : Chunked Column) → type_of (column.Chunked c) ≡ c.dty
 type_chunked c = ap type_of (sym (rolls-Chunked c)) ∙ fold-roll-Column DType type_step (Column-F.Chunked c)
 
 pub chunks_here : (c : Chunked Column) → IsSound (column.Chunked c) → AreChunks c
-chunks_here c s = subst IsSoundLayer (outs-Chunked c) (every_here-Column IsSoundLayer (column.Chunked c) s)
+chunks_here c s =
+    let layer : IsSoundLayer (Column-F.Chunked c) = subst IsSoundLayer (outs-Chunked c) (every_here-Column IsSoundLayer (column.Chunked c) s) in
+    layer.0
 
 joined_length : (columns : List Column) → length (joined (map rows_of columns)) ≡ total (map len_of columns)
 joined_length [] = refl
@@ -37,7 +39,9 @@ pub type_patched : (p : Patched Column) → type_of (column.Patched p) ≡ type_
 type_patched p = ap type_of (sym (rolls-Patched p)) ∙ fold-roll-Column DType type_step (Column-F.Patched p)
 
 pub lanes_here : (p : Patched Column) → IsSound (column.Patched p) → AreLanes p
-lanes_here p s = subst IsSoundLayer (outs-Patched p) (every_here-Column IsSoundLayer (column.Patched p) s)
+lanes_here p s =
+    let layer : IsSoundLayer (Column-F.Patched p) = subst IsSoundLayer (outs-Patched p) (every_here-Column IsSoundLayer (column.Patched p) s) in
+    layer.0
 
 pub len_patched : (p : Patched Column) → len_of (column.Patched p) ≡ len_of (inner_of p)
 len_patched p = ap length (rows_patched p) ∙ overlaid_length (lanes_of p) (rows_of (inner_of p))
