@@ -1,5 +1,5 @@
 -- The slots of columns by their encodings, and what a list of slots that are all there has at a place.
-use Rattle.std.proofs.Common.{◌≡◌, ℕ, zero, suc, ◌≤◌, List, [], ◌∷◌, map, length, slice_get, Option, Some, None, Bor, refl, sym, ◌∙◌, ap, subst, arith, IsTrue, IfOk, OnOk, IfErr}
+use Rattle.std.proofs.Common.{◌≡◌, ℕ, zero, suc, ◌≤◌, List, [], ◌∷◌, map, length, slice_get, Option, Some, None, Bor, sym, ◌∙◌, ap, arith, IsTrue, IfOk, OnOk, IfErr}
 use Rattle.std.specs.Option.{is_some, option_copied}
 use Rattle.std.specs.declared.result.Result.{Result}
 use Rattle.std.specs.declared.result.Result.TheVariants.{Ok, Err}

@@ -1,5 +1,5 @@
 -- The slots of a column: the columns right below, of which one may be absent.
-use Rattle.std.specs.Prelude.{List, [], ◌∷◌, ◌++◌, map, Option, Some, None}
+use Rattle.std.specs.Prelude.{List, [], ◌∷◌, ◌++◌, map, Option, Some}
 use Rattle.std.specs.Option.{option_map}
 use Rattle.vx_chunks.specs.Offsets.{offsets_of}
 use Rattle.vx_column.specs.Columns.{len_of, chunks_of, inner_of, lanes_of, lane_slots, base_of, values_of, index_of, interleaved_of, selectors_of, selector_slots}

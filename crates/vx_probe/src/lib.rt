@@ -2,6 +2,7 @@
 #![tactic(auto)]
 
 pub mod array;
+pub mod laws;
 mod reads;
 pub mod repeated;
 pub mod slots;
