@@ -14,9 +14,10 @@ use std::{env, io};
 use vx_base::{
     CountLedger, DType, FlatColumn, NoLedger, Nullability, PType, Res, Row, Seq, Steps, Value,
 };
-use vx_column::{ArrayProbe, Column};
+use vx_column::Column;
 use vx_job::{Boxed, Part};
 use vx_plan::open::open_part;
+use vx_probe::ArrayProbe;
 
 /// The most rows that are measured.
 const LIMIT: u64 = 4294967296;

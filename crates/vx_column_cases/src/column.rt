@@ -6,7 +6,8 @@ use std::alloc::Global;
 use vx_base::{Ledger, Res, Seq, Steps};
 use vx_cases::Call;
 use vx_cases::columns::{row_text, rows_text};
-use vx_column::{ArrayProbe, Column};
+use vx_column::Column;
+use vx_probe::ArrayProbe;
 
 /// All rows.
 pub(crate) fn rows<L: Ledger>(alloc: Global, column: &Column, steps: &mut Steps<L>) -> Res<String>

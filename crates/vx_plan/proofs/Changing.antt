@@ -13,3 +13,8 @@ some_there (Some v) some h = cc
 pub on_three : {T E P Q R S : Type 0} (r : Result T E) → (P → Q → R → S) → OnOk r P → OnOk r Q → OnOk r R → OnOk r S
 on_three (Ok x) f p q t = f p q t
 on_three (Err e) f p q t = tt
+
+-- what follows from two of them
+pub on_two : {T E P Q S : Type 0} (r : Result T E) → (P → Q → S) → OnOk r P → OnOk r Q → OnOk r S
+on_two (Ok x) f p q = f p q
+on_two (Err e) f p q = tt

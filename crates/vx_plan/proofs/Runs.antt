@@ -20,7 +20,7 @@ use Rattle.vx_job.specs.Steps.{step_leaves, step_answers, IsStepError, IsFree, A
 use Rattle.vx_job.specs.Plans.{RunsTo, StopsWith, plan_cost}
 use Rattle.vx_job.specs.declared.page.Answer.{Answer}
 use Rattle.vx_job.specs.declared.step.Step.{Step}
-use Rattle.vx_job.specs.declared.step.Step.TheVariants.{Slice, Points, Filter, Take, Runs, Mask, Zip, Fill, Cast, Compare}
+use Rattle.vx_job.specs.declared.step.Step.TheVariants.{Slice, Points, Filter, Take, Runs, Mask, Zip, Fill, Cast, Compare, Search, Contains}
 use Rattle.vx_plan.specs.AnswersView.{CostsNoMore}
 
 -- ---- what runs
@@ -93,6 +93,8 @@ cost_less point first select whole (Zip source choice) h k = omega arith
 cost_less point first select whole (Fill value) h k = omega arith
 cost_less point first select whole (Cast target) h k = omega arith
 cost_less point first select whole (Compare op value) h k = omega arith
+cost_less point first select whole (Search value side) h k = omega arith
+cost_less point first select whole (Contains source) h k = omega arith
 
 -- whether a step has a bound depends on whether the type is nested
 bound_kept : (s t : DType) (step : Step) → is_nested t ≡ is_nested s → HasBound s step → HasBound t step
@@ -106,6 +108,8 @@ bound_kept s t (Zip source choice) same bound = bound
 bound_kept s t (Fill value) same bound = bound
 bound_kept s t (Cast target) same bound = bound
 bound_kept s t (Compare op value) same bound = bound
+bound_kept s t (Search value side) same bound = bound
+bound_kept s t (Contains source) same bound = bound
 
 -- each step of a bounded plan has a bound, also over a later column
 pub bound_at : (first column : Column) (plan : List Step) (k : ℕ) (step : Step) → k < length plan → step ≡ get_or plan k step → All (HasBound (type_of first)) plan

@@ -122,7 +122,7 @@ pub(crate) fn compare<L: Ledger>(
 }
 
 /// Refuses exactly the types whose rows hold rows, for the step of this number.
-fn check_plain(number: usize, column: &Column) -> Res<()>
+pub(crate) fn check_plain(number: usize, column: &Column) -> Res<()>
     requires { IsSound column.now }
     ensures plain { OnOk result (IsFalse (is_nested (type_of column.now))) }
     ensures err { IfErr result (IsNestedError number (type_of column.now)) }

@@ -3,6 +3,7 @@
 
 pub mod answers;
 mod elementwise;
+mod lookups;
 pub mod open;
 pub mod run;
 mod selections;

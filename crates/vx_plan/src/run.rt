@@ -10,16 +10,19 @@ ghost use Rattle.vx_job.specs.Steps.{step_leaves, step_answers, IsStepError, IsF
 ghost use Rattle.vx_job.specs.Plans.{RunsTo, StopsWith, Reaches, IsPlanError, AreBounded, plan_cost, plan_bound, rows_bound};
 ghost use Rattle.vx_job.specs.declared.page.Answer.{Answer};
 ghost use Rattle.vx_job.specs.declared.page.Answer.TheVariants.{Rows as answer_rows};
+ghost use Rattle.vx_probe.specs.Probes.{probed};
 ghost use Rattle.vx_plan.specs.AnswersView.{CostsNoMore};
 
 use crate::answers::Answers;
 use crate::elementwise::{cast, compare, fill, mask, zip};
+use crate::lookups::{contains, search};
 use crate::open::open_parts;
 use crate::selections::{filter, join_runs, take};
 use std::alloc::Global;
 use vx_base::{ColumnError, Ledger, Res, Row, Seq, Steps};
-use vx_column::{ArrayProbe, Column};
+use vx_column::Column;
 use vx_job::{Answer, Part, Step};
+use vx_probe::{ArrayProbe, RepeatedArrayProbe};
 
 /// Opens the parts, and takes the steps in order from part 0 on. The answers, and the type and the rows of the last
 /// column, are those of the steps on flat lists of rows. Refuses the first fault of the parts, or else an error that is
@@ -100,8 +103,8 @@ fn take_step<L: Ledger>(
 {
     match step {
         Step::Slice { start, end } => Ok(Some(column.slice(alloc, *start..*end, steps)?)),
-        Step::Points { rows, kept: _ } => {
-            answer_points(alloc, column, rows.as_slice(), answers, steps)?;
+        Step::Points { rows, kept } => {
+            answer_points(alloc, column, rows.as_slice(), *kept, answers, steps)?;
             Ok(None)
         }
         Step::Filter { mask } => Ok(Some(filter(alloc, column, mask.as_slice(), steps)?)),
@@ -121,6 +124,16 @@ fn take_step<L: Ledger>(
             let next = compare(alloc, number, column, *operator, value, steps)?;
             Ok(Some(next))
         }
+        Step::Search { value, side } => {
+            let place = search(alloc, number, column, value, *side, steps)?;
+            answers.push(Answer::Place(place))?;
+            Ok(None)
+        }
+        Step::Contains { source } => {
+            let bits = contains(alloc, column, sources, *source, steps)?;
+            answers.push(Answer::Bits(bits))?;
+            Ok(None)
+        }
     }
 }
 
@@ -129,6 +142,7 @@ fn answer_points<L: Ledger>(
     alloc: Global,
     column: &Column,
     numbers: &[usize],
+    kept: bool,
     answers: &mut Vec<Answer>,
     steps: &mut Steps<L>,
 ) -> Res<()>
@@ -139,13 +153,34 @@ fn answer_points<L: Ledger>(
     ensures rise { IsPlain column.now → steps.new ≤ steps.old + length numbers.now * point_cost column.now }
     ensures monotone { steps.old ≤ steps.new }
 {
-    let rows = points(alloc, column, numbers, steps)?;
+    let rows = points(alloc, column, numbers, kept, steps)?;
     answers.push(Answer::Rows(rows))?;
     Ok(())
 }
 
-/// The rows of these numbers, in order.
+/// The rows of these numbers, in order, read through one probe that is kept, or each by itself.
 fn points<L: Ledger>(
+    alloc: Global,
+    column: &Column,
+    numbers: &[usize],
+    kept: bool,
+    steps: &mut Steps<L>,
+) -> Res<Seq<Row>>
+    requires { IsSound column.now }
+    ensures ok { IfOk result (λ answer. answer ≡ picked (rows_of column.now) numbers.now) }
+    ensures inside { OnOk result (AreInside (len_of column.now) numbers.now) }
+    ensures err { IfErr result (λ e. (e ≡ ColumnError.OutOfMemory) ⊎ IsPointsError (len_of column.now) numbers.now e) }
+    ensures rise { IsPlain column.now → steps.new ≤ steps.old + length numbers.now * point_cost column.now }
+    ensures monotone { steps.old ≤ steps.new }
+{
+    if kept {
+        return kept_points(alloc, column, numbers, steps);
+    }
+    read_points(alloc, &mut ArrayProbe::once(column), numbers, steps)
+}
+
+/// The same through a probe that is kept.
+fn kept_points<L: Ledger>(
     alloc: Global,
     column: &Column,
     numbers: &[usize],
@@ -158,7 +193,24 @@ fn points<L: Ledger>(
     ensures rise { IsPlain column.now → steps.new ≤ steps.old + length numbers.now * point_cost column.now }
     ensures monotone { steps.old ≤ steps.new }
 {
-    let mut probe = ArrayProbe::once(column);
+    let mut probe = RepeatedArrayProbe::new(column.share(alloc)?);
+    read_points(alloc, &mut probe.as_probe(), numbers, steps)
+}
+
+/// The rows of these numbers, in order, of the column that the probe reads.
+fn read_points<L: Ledger>(
+    alloc: Global,
+    probe: &mut ArrayProbe<'_>,
+    numbers: &[usize],
+    steps: &mut Steps<L>,
+) -> Res<Seq<Row>>
+    requires { IsSound (probed probe.old) }
+    ensures ok { IfOk result (λ answer. answer ≡ picked (rows_of (probed probe.old)) numbers.now) }
+    ensures inside { OnOk result (AreInside (len_of (probed probe.old)) numbers.now) }
+    ensures err { IfErr result (λ e. (e ≡ ColumnError.OutOfMemory) ⊎ IsPointsError (len_of (probed probe.old)) numbers.now e) }
+    ensures rise { IsPlain (probed probe.old) → steps.new ≤ steps.old + length numbers.now * point_cost (probed probe.old) }
+    ensures monotone { steps.old ≤ steps.new }
+{
     let mut rows = Seq::new(alloc);
     for number in numbers {
         rows.push(probe.execute_scalar(alloc, *number, steps)?)?;

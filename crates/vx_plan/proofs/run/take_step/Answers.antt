@@ -57,3 +57,8 @@ pub returns-in_ok-next-in-Compare-clause-free : goal.returns-in_ok-next-in-Compa
 returns-in_ok-next-in-Compare-clause-free g c =
     let x = c.args.column.now in
     subst (λ (s : Step). IsFree (map flat_of c.args.sources.now) c.args.number (flat_of x) s) (sym c.in-Compare.is) c.in_ok-next-in-Compare.ensures.free
+
+pub returns-in_ok-push-in-Search-clause-free : goal.returns-in_ok-push-in-Search-clause-free
+returns-in_ok-push-in-Search-clause-free g c =
+    let x = c.args.column.now in
+    subst (λ (s : Step). IsFree (map flat_of c.args.sources.now) c.args.number (flat_of x) s) (sym c.in-Search.is) c.in_ok-place-in-Search.ensures.free

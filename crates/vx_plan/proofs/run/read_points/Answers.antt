@@ -4,12 +4,13 @@ use Rattle.vx_column.specs.declared.column.Column.{Column}
 use Rattle.vx_column.specs.Columns.{rows_of, len_of, IsPlain, point_cost}
 use Rattle.vx_job.specs.Rows.{picked}
 use Rattle.vx_plan.proofs.Runs.{picked_more, inside_more}
-use Rattle.vx_plan.proofs.run.points.Goals as goal
+use Rattle.vx_probe.specs.Probes.{probed}
+use Rattle.vx_plan.proofs.run.read_points.Goals as goal
 
 pub loop-number-preserved : goal.loop-number-preserved
 loop-number-preserved g c =
     let inv = c.loop-number.invariant in
-    let column = c.args.column.now in
+    let column = probed c.args.probe.now in
     let numbers = c.args.numbers.now in
     let k = c.loop-number.number-index in
     let read = c.in_ok-execute_scalar.ensures in
